@@ -1,9 +1,11 @@
 -- Where control goes from an instruction is a place of the code.
 use Rattle.std.proofs.Common.{◌≡◌, ◌∙◌, sym, ap, refl, subst, ℕ, zero, suc, ◌-◌, ◌<◌, ◌≤◌, ◌==◌, Bool, true, false, not, if◌then◌else◌, true≢false, List, [], ◌∷◌, map, Option, Some, None, inl, inr, arith}
 use Rattle.std.specs.List.{list_all, AllByRecursion}
+use Rattle.std.specs.Prelude.{◌&&◌, ◌++◌}
 use Rattle.std.specs.Option.{IfSome}
 use Rattle.std.proofs.lemmas.Bool.{and_parts, or_cases}
 use Rattle.std.proofs.lemmas.Option.{same_Some}
+use Rattle.kilim_program.specs.declared.class.Handler.{Handler}
 use Rattle.kilim_program.specs.declared.class.Method.{Method}
 use Rattle.kilim_program.specs.declared.instr.Instr.{Instr}
 use Rattle.kilim_program.specs.declared.names.MethodId.{MethodId}
@@ -11,13 +13,25 @@ use Rattle.kilim_program.specs.Keeps.{Keeps, code_is_whole}
 use Rattle.kilim_program.specs.Lengths.{has_length, code_stands, code_ends, targets_stand, is_code_place, first_place, fetched, jump_targets, ends_path}
 use Rattle.kilim_program.specs.Names.{method_at, is_empty}
 use Rattle.kilim_program.specs.Program.{Program}
-use Rattle.kilim_isolation_paths.specs.Paths.{Has}
+use Rattle.kilim_isolation_paths.specs.declared.machine.Exit.{Exit}
+use Rattle.kilim_isolation_paths.specs.declared.machine.Exit.TheVariants as exit
+use Rattle.kilim_isolation_paths.specs.Paths.{Has, target}
 use Rattle.kilim_program.proofs.lookups.Rising.{longer_by, all_there, same_number}
 use Rattle.kilim_type_spec.specs.Typed.{edges, has_code}
-use Rattle.kilim_isolation.specs.Walks.{exits_to, exits_of, exits_at}
+use Rattle.kilim_isolation.specs.Walks.{covers, exits_at, exits_of, exits_to, handled_at, is_throw, is_walkable}
 
-pub whole : (p : Program) (id : MethodId) (m : Method) → Keeps p → method_at p id ≡ Some m → code_is_whole m ≡ true
-whole p id m keeps there = all_there code_is_whole p.methods id.0 m keeps.code there
+both : (a b : Bool) → a ≡ true → b ≡ true → (a && b) ≡ true
+both true b e f = f
+both false b e f = absurd (true≢false (sym e))
+
+none_stand : (m : Method) (hs : List Handler) → is_empty hs ≡ true → list_all (λ (h : Handler). is_code_place m.code h.at) hs ≡ true
+none_stand m [] e = refl
+none_stand m (h ∷ hs) e = absurd (true≢false (sym e))
+
+pub whole : (p : Program) (id : MethodId) (m : Method) → Keeps p → method_at p id ≡ Some m → is_walkable m ≡ true
+whole p id m keeps there =
+    both (code_is_whole m) _ (all_there code_is_whole p.methods id.0 m keeps.code there)
+    (none_stand m m.handlers (all_there (λ (n : Method). is_empty n.handlers) p.methods id.0 m keeps.handlers there))
 
 record IsInside (at : ℕ) (es : List (ℕ × Instr)) (end : ℕ) : Type 0 where
   least : at ≤ end
@@ -45,9 +59,9 @@ some_code : (es : List (ℕ × Instr)) (end : ℕ) → code_stands 0 es end ≡ 
 some_code [] end stands c = absurd (true≢false c)
 some_code (e ∷ es) end stands c = let lt : e.0 < end = (inside 0 (e ∷ es) end stands).each e.0 (place_is e es) in omega arith
 
-pub starts : (m : Method) → code_is_whole m ≡ true → has_code m ≡ true → 0 < m.code_length
+pub starts : (m : Method) → is_walkable m ≡ true → has_code m ≡ true → 0 < m.code_length
 unfolding code_is_whole
-starts m w coded = some_code m.code m.code_length (and_parts (code_stands 0 m.code m.code_length) _ w).0 (not_true (is_empty m.code) coded)
+starts m w coded = some_code m.code m.code_length (and_parts (code_stands 0 m.code m.code_length) _ (and_parts (code_is_whole m) _ w).0).0 (not_true (is_empty m.code) coded)
   where
     not_true : (b : Bool) → not b ≡ true → b ≡ false
     not_true true e = absurd (true≢false (sym e))
@@ -105,9 +119,13 @@ edges_each : (end next : ℕ) (b : Bool) (tos : List ℕ) → (b ≡ false → n
 edges_each end next true tos lt all = all
 edges_each end next false tos lt all = (lt refl, all)
 
-pub exits_inside : (m : Method) (at : ℕ) → code_is_whole m ≡ true → AllByRecursion (λ x. IfSome x (λ q. q < m.code_length)) (exits_at m at)
+unless : (end : ℕ) (b : Bool) (xs : List (Option ℕ)) → AllByRecursion (λ x. IfSome x (λ q. q < end)) xs → AllByRecursion (λ x. IfSome x (λ q. q < end)) (if b then [] else xs)
+unless end true xs all = tt
+unless end false xs all = all
+
+leads_inside : (m : Method) (at : ℕ) → code_is_whole m ≡ true → AllByRecursion (λ x. IfSome x (λ q. q < m.code_length)) (exits_of (fetched m.code m.code_length at))
 unfolding code_is_whole targets_stand
-exits_inside m at w = by (fetched m.code m.code_length at) refl
+leads_inside m at w = by (fetched m.code m.code_length at) refl
   where
     stands : code_stands 0 m.code m.code_length ≡ true
     stands = (and_parts (code_stands 0 m.code m.code_length) _ w).0
@@ -118,14 +136,40 @@ exits_inside m at w = by (fetched m.code m.code_length at) refl
     by : (found : Option (Instr × ℕ)) → fetched m.code m.code_length at ≡ found → AllByRecursion (λ x. IfSome x (λ q. q < m.code_length)) (exits_of found)
     by None f = tt
     by (Some (i, next)) f =
-        exits_each m.code_length (edges i next) (edges_each m.code_length next (ends_path i) (jump_targets i)
+        unless m.code_length (is_throw i) (exits_to (edges i next))
+        (exits_each m.code_length (edges i next) (edges_each m.code_length next (ends_path i) (jump_targets i)
         (λ goes. next_inside 0 m.code m.code_length at next i stands others.1 f goes)
-        (each_inside 0 m.code m.code_length (jump_targets i) stands (fetched_in (λ j. list_all (is_code_place m.code) (jump_targets j)) m.code m.code_length at next i others.0 f)))
+        (each_inside 0 m.code m.code_length (jump_targets i) stands (fetched_in (λ j. list_all (is_code_place m.code) (jump_targets j)) m.code m.code_length at next i others.0 f))))
+
+-- an exit leads to a place of the code, or out
+abbrev Leads : ℕ → Exit → Type 0
+Leads end x = IfSome (target x) (λ q. q < end)
+
+to_each : (end : ℕ) (xs : List (Option ℕ)) (ys : List Exit) → AllByRecursion (λ x. IfSome x (λ q. q < end)) xs → AllByRecursion (Leads end) ys → AllByRecursion (Leads end) (map exit.To xs ++ ys)
+to_each end [] ys all others = others
+to_each end (x ∷ xs) ys all others = (all.0, to_each end xs ys all.1 others)
+
+with_handler : (end : ℕ) (b : Bool) (at : ℕ) (rest : List Exit) → at < end → AllByRecursion (Leads end) rest → AllByRecursion (Leads end) (if b then exit.Handler at ∷ rest else rest)
+with_handler end true at rest lt all = (lt, all)
+with_handler end false at rest lt all = all
+
+handlers_inside : (m : Method) (hs : List Handler) (at : ℕ) → code_stands 0 m.code m.code_length ≡ true → list_all (λ (h : Handler). is_code_place m.code h.at) hs ≡ true → AllByRecursion (Leads m.code_length) (handled_at hs at)
+handlers_inside m [] at stands all = tt
+handlers_inside m (h ∷ hs) at stands all =
+    let parts = and_parts (is_code_place m.code h.at) _ all in
+    with_handler m.code_length (covers h at) h.at (handled_at hs at) ((inside 0 m.code m.code_length stands).each h.at parts.0) (handlers_inside m hs at stands parts.1)
+
+pub exits_inside : (m : Method) (at : ℕ) → is_walkable m ≡ true → AllByRecursion (λ (x : Exit). IfSome (target x) (λ q. q < m.code_length)) (exits_at m at)
+unfolding code_is_whole
+exits_inside m at w =
+    let parts = and_parts (code_is_whole m) _ w in
+    to_each m.code_length (exits_of (fetched m.code m.code_length at)) (handled_at m.handlers at) (leads_inside m at parts.0)
+    (handlers_inside m m.handlers at (and_parts (code_stands 0 m.code m.code_length) _ parts.0).0 parts.1)
 
 has_each : {A : Type 0} (P : A → Type 0) (xs : List A) (x : A) → AllByRecursion P xs → Has xs x → P x
 has_each P [] x all (k, there) = absurd (cc)
 has_each P (y ∷ ys) x all (zero, there) = subst P (same_Some y x there) all.0
 has_each P (y ∷ ys) x all (suc k, there) = has_each P ys x all.1 (k, there)
 
-pub exit_inside : (m : Method) (at : ℕ) (exit : Option ℕ) → code_is_whole m ≡ true → Has (exits_at m at) exit → IfSome exit (λ q. q < m.code_length)
-exit_inside m at exit w has = has_each (λ x. IfSome x (λ q. q < m.code_length)) (exits_at m at) exit (exits_inside m at w) has
+pub exit_inside : (m : Method) (at : ℕ) (x : Exit) → is_walkable m ≡ true → Has (exits_at m at) x → IfSome (target x) (λ q. q < m.code_length)
+exit_inside m at x w has = has_each (λ (y : Exit). IfSome (target y) (λ q. q < m.code_length)) (exits_at m at) x (exits_inside m at w) has

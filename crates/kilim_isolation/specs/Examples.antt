@@ -3,6 +3,7 @@ use Rattle.std.specs.Prelude.{◌≡◌, ℕ, Bool, true, false, List, [], ◌�
 use Rattle.kilim_program.specs.declared.class.Class.{Class}
 use Rattle.kilim_program.specs.declared.class.Field.{Field}
 use Rattle.kilim_program.specs.declared.class.Form.TheVariants.{Plain}
+use Rattle.kilim_program.specs.declared.class.Handler.{Handler}
 use Rattle.kilim_program.specs.declared.class.Method.{Method}
 use Rattle.kilim_program.specs.declared.instr.Instr.{Instr}
 use Rattle.kilim_program.specs.declared.instr.Instr.TheVariants.{AconstNull, Iconst, Aload, Iload, Astore, Dup, Getfield, Putfield, Invokevirtual, Invokespecial, Invokestatic, New, Return}
@@ -11,10 +12,14 @@ use Rattle.kilim_program.specs.declared.names.MethodId.{MethodId}
 use Rattle.kilim_program.specs.declared.ty.Ty.{Ty}
 use Rattle.kilim_program.specs.declared.ty.Qualifier.{Qualifier}
 use Rattle.kilim_program.specs.declared.ty.Qualifier.TheVariants.{Cuttable, Safe}
+use Rattle.kilim_program.specs.declared.verified.Frame.{Frame}
+use Rattle.kilim_program.specs.declared.verified.VType.TheVariants.{Object}
 use Rattle.kilim_program.specs.Program.{Program}
 use Rattle.kilim_program.specs.BuiltIn.{class_id, method_id, class_type, int_type, built_in_classes, built_in_methods}
 use Rattle.kilim_type_spec.specs.Typed.{frames_of, listed}
 use Rattle.kilim_isolation_paths.specs.Folds.{folded}
+use Rattle.kilim_isolation_paths.specs.declared.machine.Exit.{Exit}
+use Rattle.kilim_isolation_paths.specs.declared.machine.Exit.TheVariants as exit
 use Rattle.kilim_isolation_paths.specs.Paths.{Machine}
 use Rattle.kilim_isolation_graph.specs.declared.graph.Graph.{Graph}
 use Rattle.kilim_isolation.specs.Walks.{entry_graph, machine_of}
@@ -26,15 +31,22 @@ Walked = Result (ℕ × Graph) (ℕ × ℕ)
 -- with the step out of the last place, where that is a return
 abbrev pub with_last : Machine Graph → Walked → Walked
 with_last m (Err e) = Err e
-with_last m (Ok last) = elim (m.moves last.0 last.1 None) [ Ok g ↦ Ok last | Err n ↦ Err (last.0, n) ]
+with_last m (Ok last) = elim (m.moves last.0 last.1 (exit.To None)) [ Ok g ↦ Ok last | Err n ↦ Err (last.0, n) ]
 
-abbrev pub walked_from : Program → Method → List ℕ → Result Graph ℕ → Walked
+abbrev pub walked_from : Program → Method → List (Exit × ℕ) → Result Graph ℕ → Walked
 walked_from p m rest (Err n) = Err (0, n)
 walked_from p m rest (Ok g) = folded (machine_of p m (map (listed m) (frames_of p m)) g) 0 g rest
 
--- a path of a method, by the method's number; it begins at place 0
+-- a path of a method, by the method's number, with the edge to each place; it begins at place 0
+abbrev pub along_edges : Program → ℕ → List (Exit × ℕ) → Walked
+along_edges p k rest = elim (slice_get p.methods k) [ None ↦ Err (0, 0) | Some m ↦ walked_from p m rest (entry_graph p m) ]
+
+-- where each instruction is done
+abbrev pub goes : List ℕ → List (Exit × ℕ)
+goes rest = map (λ n. (exit.To (Some n), n)) rest
+
 abbrev pub along : Program → ℕ → List ℕ → Walked
-along p k rest = elim (slice_get p.methods k) [ None ↦ Err (0, 0) | Some m ↦ walked_from p m rest (entry_graph p m) ]
+along p k rest = along_edges p k (goes rest)
 
 abbrev pub field_id : ℕ → FieldId
 field_id n = record { 0 = n }
@@ -140,8 +152,35 @@ code_new_message = (0, New (class_id 1)) ∷ (3, Dup) ∷ (4, Iconst (pos 1)) �
 abbrev pub run_new_message : Walked
 run_new_message = along (program 34 code_new_message 1 none) 1 (3 ∷ 4 ∷ 5 ∷ 8 ∷ 9 ∷ 10 ∷ 13 ∷ 14 ∷ 17 ∷ 20 ∷ 21 ∷ 22 ∷ 25 ∷ 26 ∷ 27 ∷ 30 ∷ 33 ∷ [])
 
+-- ---- handlers
+
+-- the second method, `execute`, has these frames and this exception table
+abbrev pub in_second : List (ℕ × Frame) → List Handler → List Method → List Method
+in_second frames handlers (a ∷ b ∷ ms) = a ∷ record b { frames = frames; handlers = handlers } ∷ ms
+in_second frames handlers ms = ms
+
+abbrev pub catching : List (ℕ × Frame) → List Handler → Program → Program
+catching frames handlers p = record p { methods = in_second frames handlers p.methods }
+
+-- A message is put in the range of a handler that reads it.
+abbrev pub code_put_and_catch : List (ℕ × Instr)
+code_put_and_catch = (0, New (class_id 1)) ∷ (3, Dup) ∷ (4, Iconst (pos 1)) ∷ (5, Invokespecial (method_id 4)) ∷ (8, Astore 1) ∷ (9, Aload 0) ∷ (10, Getfield (field_id 0)) ∷ (13, Aload 1) ∷ (14, Invokevirtual (method_id 14)) ∷ (17, Return) ∷ (18, Astore 2) ∷ (19, Aload 1) ∷ (20, Getfield (field_id 1)) ∷ (23, Invokestatic (method_id 17)) ∷ (26, Return) ∷ []
+
+abbrev pub program_put_and_catch : Program
+program_put_and_catch =
+    catching ((18, record { locals = Object (class_type 0) ∷ Object (class_type 1) ∷ []; stack = Object (class_type 3) ∷ [] }) ∷ []) (record { start = 9; end = 17; at = 18; catch = None } ∷ []) (program 27 code_put_and_catch 1 none)
+
+-- the put raises: what was given is gone, in the handler too
+abbrev pub run_put_raises : Walked
+run_put_raises = along_edges program_put_and_catch 1 (goes (3 ∷ 4 ∷ 5 ∷ 8 ∷ 9 ∷ 10 ∷ 13 ∷ 14 ∷ []) ++ ((exit.Handler 18, 18) ∷ goes (19 ∷ 20 ∷ [])))
+
+-- the instruction before it raises
+abbrev pub run_caught_before : Walked
+run_caught_before = along_edges program_put_and_catch 1 (goes (3 ∷ 4 ∷ 5 ∷ 8 ∷ 9 ∷ 10 ∷ 13 ∷ []) ++ ((exit.Handler 18, 18) ∷ goes (19 ∷ 20 ∷ 23 ∷ 26 ∷ [])))
+
 -- what they say: a message put and used, the second name of a cut child, a child cut and put, a root into itself, a cuttable
--- parameter into a new object, one object passed as cuttable and safe, a variable with a new message
+-- parameter into a new object, one object passed as cuttable and safe, a variable with a new message; a put that raises, and what is
+-- raised before it
 pub record ExamplesHold : Type 0 where
   pub put_then_use : run_put_then_use ≡ Err (17, 2)
   pub second_name : run_second_name ≡ Err (31, 2)
@@ -150,3 +189,5 @@ pub record ExamplesHold : Type 0 where
   pub cuttable_stored : run_cuttable_stored ≡ Err (10, 1)
   pub passed_twice : run_passed_twice ≡ Err (10, 5)
   pub new_message : is_ok run_new_message ≡ true
+  pub put_raises : run_put_raises ≡ Err (19, 2)
+  pub caught_before : is_ok run_caught_before ≡ true

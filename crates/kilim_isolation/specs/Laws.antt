@@ -7,6 +7,7 @@ use Rattle.kilim_program.specs.Names.{method_at}
 use Rattle.kilim_program.specs.Program.{Program}
 use Rattle.kilim_type_spec.specs.Typed.{has_code}
 use Rattle.kilim_type_spec.specs.TypedProgram.{TypedProgram}
+use Rattle.kilim_isolation_paths.specs.declared.machine.Exit.{Exit}
 use Rattle.kilim_isolation_paths.specs.Paths.{Has, Reaches, IsCrowded}
 use Rattle.kilim_isolation_graph.specs.declared.graph.Graph.{Graph}
 use Rattle.kilim_isolation_pauses.specs.Pausing.{all_methods, frames_at}
@@ -17,7 +18,7 @@ use Rattle.kilim_isolation.specs.Walks.{entry_graph, exits_at, machine_of, step}
 pub record GoesOn (p : Program) (m : Method) (fs : List Frame) : Type 0 where
   pub first : Graph
   pub begins : entry_graph p m ≡ Ok first
-  pub goes : (at : ℕ) (g : Graph) (to : Option ℕ) → Reaches (machine_of p m fs first) at g → Has (exits_at m at) to → (next : Graph) × (step p m fs at g to ≡ Ok next)
+  pub goes : (at : ℕ) (g : Graph) (to : Exit) → Reaches (machine_of p m fs first) at g → Has (exits_at m at) to → (next : Graph) × (step p m fs at g to ≡ Ok next)
   pub few : (at : ℕ) → IsCrowded (machine_of p m fs first) at → ⊥
 
 abbrev pub AcceptedGoesOn : Type 0

@@ -1,8 +1,7 @@
 //! The exits of an instruction.
 
 ghost use Rattle.std.specs.Prelude.{◌≡◌, ◌∷◌, ◌++◌, [], Some, map, IfOk};
-ghost use Rattle.kilim_type_spec.specs.Typed.{edges};
-ghost use Rattle.kilim_isolation.specs.Walks.{exits_to};
+ghost use Rattle.kilim_isolation.specs.Walks.{exits_by};
 
 use kilim_program::Instr;
 use kilim_units::{NoMemory, Seq};
@@ -54,11 +53,11 @@ fn of_pairs(alloc: Global, default: u32, pairs: &[(i32, u32)]) -> Result<Seq<Opt
     Ok(exits)
 }
 
-/// The exits of an instruction, behind which the code goes on at a place: to the places where control may go from it, or out
-/// where it returns.
+/// The exits of an instruction that is done, behind which the code goes on at a place: to the places where control may go from it,
+/// or out where it returns. `athrow` has none.
 #[tactic(auto, unfolding(kilim_program::specs::Lengths::jump_targets, kilim_program::specs::Lengths::ends_path))]
 pub fn exits_of(alloc: Global, instr: &Instr, next: u32) -> Result<Seq<Option<u32>>, NoMemory>
-    ensures { IfOk result (λ exits. exits ≡ exits_to (edges instr.now next)) }
+    ensures { IfOk result (λ exits. exits ≡ exits_by instr.now next) }
 {
     match instr {
         Instr::Tableswitch(default, _, targets) => of_table(alloc, *default, targets.as_slice()),
@@ -80,9 +79,8 @@ pub fn exits_of(alloc: Global, instr: &Instr, next: u32) -> Result<Seq<Option<u3
         | Instr::IfAcmpne(to)
         | Instr::Ifnull(to)
         | Instr::Ifnonnull(to) => two(alloc, next, *to),
-        Instr::Ireturn | Instr::Lreturn | Instr::Areturn | Instr::Return | Instr::Athrow => {
-            one(alloc, None)
-        }
+        Instr::Ireturn | Instr::Lreturn | Instr::Areturn | Instr::Return => one(alloc, None),
+        Instr::Athrow => Ok(Seq::new(alloc)),
         _ => one(alloc, Some(next)),
     }
 }

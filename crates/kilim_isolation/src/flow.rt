@@ -9,7 +9,7 @@ ghost use Rattle.kilim_isolation_rules.specs.Rules as spec;
 ghost use Rattle.kilim_isolation.specs.Made.{is_new};
 
 use kilim_isolation_graph::{Graph, turned};
-use kilim_isolation_rules::{Deed, StepFault, any_mixes, deed_of, judge};
+use kilim_isolation_rules::{Deed, StepFault, any_mixes, deed_of, judge, raised_deed_of};
 use kilim_program::{Frame, Instr, Method, Program, VType};
 use kilim_type_step::{State, StepFault as TypeFault, state_of, type_step};
 use kilim_units::NoMemory;
@@ -114,6 +114,56 @@ fn deed(
     let deed = deed_of(alloc, program, method, graph, &types, instr);
     drop(types);
     deed
+}
+
+// What an instruction does to a graph where it raises.
+fn raised(
+    alloc: Global,
+    program: &Program,
+    graph: &Graph,
+    before: &Frame,
+    instr: &Instr,
+) -> Result<Deed, NoMemory>
+    ensures { IfOk result (λ deed. deed ≡ spec.raised_deed program.now graph.now (frame_types before.now) instr.now) }
+{
+    let Ok(types) = turned::<VType>(alloc, before.stack.as_slice()) else {
+        return Err(NoMemory);
+    };
+    let deed = raised_deed_of(alloc, program, graph, &types, instr);
+    drop(types);
+    deed
+}
+
+// Whether a tree becomes private in a local of the frame that is declared at a handler.
+fn locals_mix(program: &Program, before: &Frame, after: Option<&Frame>) -> bool
+    ensures { result ≡ spec.locals_mix program.now (frame_types before.now) (option_map frame_types (option_copied after.entry)) }
+{
+    match after {
+        Some(frame) => any_mixes(program, before.locals.as_slice(), frame.locals.as_slice()),
+        None => false,
+    }
+}
+
+/// The graph that an instruction leaves to a handler, or the least of the rules 1, 5, 6 and 7 that it breaks: of a call the
+/// argument rules count, every other instruction changes nothing; then the stack is one slot that names no node. `before` is the
+/// verified frame at the instruction, `after` the one that is declared at the handler, or none. The graph is the one before its
+/// canonical form there is taken.
+#[tactic(auto, unfolding(kilim_isolation_rules::specs::Rules::to_handler))]
+pub fn to_handler(
+    alloc: Global,
+    program: &Program,
+    graph: &Graph,
+    before: &Frame,
+    instr: &Instr,
+    after: Option<&Frame>,
+) -> Result<Graph, StepFault>
+    ensures { IsStep (spec.to_handler program.now graph.now (frame_types before.now) instr.now (option_map frame_types (option_copied after.entry))) result }
+{
+    let mixes = locals_mix(program, before, after);
+    match raised(alloc, program, graph, before, instr) {
+        Ok(deed) => judge(deed, mixes),
+        Err(NoMemory) => Err(StepFault::Memory),
+    }
 }
 
 /// The graph that an instruction leaves, or the least of the rules 1 to 7 and 9 that it breaks. `before` is the verified frame at

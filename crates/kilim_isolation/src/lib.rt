@@ -17,7 +17,7 @@ mod walk;
 
 pub use check::all_reports;
 pub use exits::exits_of;
-pub use flow::transfer;
+pub use flow::{to_handler, transfer};
 pub use isolated::{CheckFault, Isolated, check_program};
 pub use kilim_isolation_pauses::Report;
 pub use laws::{accepted_goes_on, examples_hold};

@@ -1,20 +1,20 @@
 //! A method with the graph with which it begins, as a machine.
 
 ghost use Rattle.std.specs.Prelude.{◌≡◌, true};
-ghost use Rattle.kilim_program.specs.Keeps.{code_is_whole};
 ghost use Rattle.kilim_type_spec.specs.Typed.{has_code};
 ghost use Rattle.kilim_isolation.specs.Tables.{IsTable, places_of};
+ghost use Rattle.kilim_isolation.specs.Walks.{is_walkable};
 
 use crate::shape::Shape;
 use crate::walk::{exits_at, step};
 use kilim_isolation_graph::Graph;
-use kilim_isolation_paths::Moves;
+use kilim_isolation_paths::{Exit, Moves};
 use kilim_isolation_rules::{StepFault, copied};
 use kilim_program::{Frame, Method, Program};
 use kilim_units::{NoMemory, Seq};
 use std::alloc::Global;
 
-/// A method with whole code, the tables of its places, and the graph with which it begins.
+/// A method with whole code and handlers that stand in it, the tables of its places, and the graph with which it begins.
 #[derive(Drop)]
 pub struct Walk<'a> {
     pub alloc: Global,
@@ -24,7 +24,7 @@ pub struct Walk<'a> {
     pub frames_at: &'a [usize],
     pub frames: &'a [Frame],
     pub first: &'a Graph,
-    ghost whole: { code_is_whole method.now ≡ true },
+    ghost whole: { is_walkable method.now ≡ true },
     ghost coded: { has_code method.now ≡ true },
     ghost code: { IsTable code_at.now (places_of method.now.code) method.now.code_length },
     ghost declared: { IsTable frames_at.now (places_of method.now.frames) method.now.code_length },
@@ -52,19 +52,14 @@ impl<'a> Moves for Walk<'a> {
         Ok(Shape::new(graph))
     }
 
-    fn exits(&self, place: u32) -> Result<Seq<Option<u32>>, NoMemory> {
+    fn exits(&self, place: u32) -> Result<Seq<Exit>, NoMemory> {
         let Ok(exits) = exits_at(self.alloc, self.method, self.code_at, place) else {
             return Err(NoMemory);
         };
         Ok(exits)
     }
 
-    fn step(
-        &self,
-        place: u32,
-        state: &Shape,
-        exit: Option<u32>,
-    ) -> Result<Result<Shape, u8>, NoMemory> {
+    fn step(&self, place: u32, state: &Shape, exit: Exit) -> Result<Result<Shape, u8>, NoMemory> {
         match step(
             self.alloc,
             self.program,

@@ -1,13 +1,12 @@
 //! What the paths of a method give.
 
 ghost use Rattle.std.specs.Prelude.{◌≡◌, ◌∷◌, ◌++◌, [], true, Ok, IfOk, map, option_copied, slice_get};
-ghost use Rattle.kilim_program.specs.Keeps.{code_is_whole};
 ghost use Rattle.kilim_program.specs.Names.{method_at};
 ghost use Rattle.kilim_type_spec.specs.Typed.{has_code};
 ghost use Rattle.kilim_isolation_pauses.specs.Pausing.{frames_at};
 ghost use Rattle.kilim_isolation.specs.Faults as spec;
 ghost use Rattle.kilim_isolation.specs.Tables.{IsTable, places_of};
-ghost use Rattle.kilim_isolation.specs.Walks.{entry_graph, machine_of};
+ghost use Rattle.kilim_isolation.specs.Walks.{entry_graph, is_walkable, machine_of};
 ghost use Rattle.kilim_isolation_paths.specs.Answer.{IsAnswer};
 
 use crate::first::first_graph;
@@ -102,7 +101,7 @@ fn found_from(
     frames: &[Frame],
     first: &Graph,
 ) -> Result<Explored, NoMemory>
-    requires whole { code_is_whole method.now ≡ true }
+    requires whole { is_walkable method.now ≡ true }
     requires coded { has_code method.now ≡ true }
     requires code { IsTable code_at.now (places_of method.now.code) method.now.code_length }
     requires declared { IsTable frames_at.now (places_of method.now.frames) method.now.code_length }
@@ -128,7 +127,7 @@ fn explored(
     frames: &[Frame],
     first: &Graph,
 ) -> Result<Explored, NoMemory>
-    requires whole { code_is_whole method.now ≡ true }
+    requires whole { is_walkable method.now ≡ true }
     requires coded { has_code method.now ≡ true }
     ensures { IfOk result (λ found. IsAnswer (machine_of program.now method.now frames.now first.now) found) }
 {
@@ -154,7 +153,7 @@ fn walked_from(
     frames: &[Frame],
     first: &Graph,
 ) -> Result<Seq<Report>, NoMemory>
-    requires whole { code_is_whole method.now ≡ true }
+    requires whole { is_walkable method.now ≡ true }
     requires coded { has_code method.now ≡ true }
     ensures { IfOk result (λ reports. spec.ArePathReports program.now id method.now frames.now (Ok first.now) reports) }
 {
@@ -173,7 +172,7 @@ fn walked(
     method: &Method,
     frames: &[Frame],
 ) -> Result<Seq<Report>, NoMemory>
-    requires whole { code_is_whole method.now ≡ true }
+    requires whole { is_walkable method.now ≡ true }
     requires coded { has_code method.now ≡ true }
     ensures { IfOk result (λ reports. spec.ArePathReports program.now id method.now frames.now (entry_graph program.now method.now) reports) }
 {

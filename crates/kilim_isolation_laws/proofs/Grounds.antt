@@ -21,14 +21,16 @@ use Rattle.kilim_run_machine.specs.Effect.{is_wide}
 use Rattle.kilim_program.specs.Members.{named_type}
 use Rattle.kilim_run_state.specs.Machine.{Objects}
 use Rattle.kilim_type_spec.specs.Step.{is_long, peek}
-use Rattle.kilim_type_spec.specs.Typed.{IsWellTyped, edges, has_code}
+use Rattle.kilim_type_spec.specs.Typed.{IsWellTyped, has_code}
 use Rattle.kilim_type_laws.specs.Laws.{typing_at}
 use Rattle.kilim_type_laws.proofs.ByPlace.{typed_by_place}
 use Rattle.kilim_isolation_paths.specs.Paths.{Has, Reaches}
 use Rattle.kilim_isolation_graph.specs.declared.graph.Graph.{Graph}
 use Rattle.kilim_isolation.specs.Faults.{IsAccepted}
 use Rattle.kilim_isolation.specs.Laws.{GoesOn}
-use Rattle.kilim_isolation.specs.Walks.{entry_graph, exits_to, machine_of}
+use Rattle.kilim_isolation.specs.Walks.{entry_graph, exits_by, machine_of}
+use Rattle.kilim_isolation_laws.proofs.reached_objects.graphs.Behind.{stands_behind_it}
+use Rattle.kilim_isolation_laws.proofs.reached_objects.live.NoHandlers.{no_handler}
 use Rattle.kilim_isolation_laws.proofs.reached_objects.walk.Methods.{every_method_goes}
 use Rattle.kilim_isolation_laws.proofs.reached_objects.walk.Walks.{walks_by_types}
 use Rattle.kilim_type_sound.specs.Fits.{Classes, HeapFits, has_type, have_types, is_made, is_of}
@@ -52,8 +54,10 @@ module _ (p : Program) (keeps : Keeps p) (well : IsWellTyped p) (accepted : IsAc
   method_keeps id m is coded = record {
     flow = types_flow p m (typing_at p id) (typed_by_place p keeps well id m is coded) (begins (starts p keeps id m is coded));
     begins = (goes.first, goes.begins);
-    passes = λ first e. subst (λ (f : Graph). (at : ℕ) (g : Graph) → Reaches (machine_of p m (listed_at p id) f) at g → (i : Instr) (next : ℕ) → fetched m.code m.code_length at ≡ Some (i, next) → (to : Option ℕ) → Has (exits_to (edges i next)) to →
+    passes = λ first e. subst (λ (f : Graph). (at : ℕ) (g : Graph) → Reaches (machine_of p m (listed_at p id) f) at g → (i : Instr) (next : ℕ) → fetched m.code m.code_length at ≡ Some (i, next) → (to : Option ℕ) → Has (exits_by i next) to →
         Passes p m (typing_at p id) (listed_at p id) f at g i to) (first_same (entry_graph p m) goes.first first goes.begins e) (λ at g r i next f to h. let w = walks_by_types (typed p) (record { typed = well; frames = refl }) keeps id m is coded goes at next i g to r f h in record { passed = w.moved; arrives = w.comes });
+    handled = λ first e at g r i next here h has covering. absurd (no_handler p keeps id m is h has);
+    behind = stands_behind_it p keeps id m is;
   }
     where
       goes : GoesOn p m (listed_at p id)

@@ -3,7 +3,8 @@ use Rattle.std.proofs.Common.{◌≡◌, ℕ, zero, suc, ◌+◌, ◌<◌, ◌�
 use Rattle.std.specs.List.{AllByRecursion, AllZip}
 use Rattle.std.proofs.lemmas.Bool.{cases_lt}
 use Rattle.std.proofs.lemmas.Option.{slice_get_within, slice_get-get_or}
-use Rattle.kilim_isolation_paths.specs.Paths.{Has, Machine, ArrivesBy, Reaches, Fails, IsCrowded}
+use Rattle.kilim_isolation_paths.specs.declared.machine.Exit.{Exit}
+use Rattle.kilim_isolation_paths.specs.Paths.{Has, Machine, ArrivesBy, Reaches, Fails, IsCrowded, target}
 use Rattle.kilim_isolation_paths.specs.Search.{states_at, before, AreLinked, AreOrdered, IsFound, IsNoted, IsDone, AreDone, Good, Later, IsAt, IsReportOf, Took, Visited}
 use Rattle.kilim_isolation_paths.specs.Stored.{Stored}
 use Rattle.kilim_isolation_paths.specs.Answer.{comes_before, AreInOrder, IsReported, AreFaults}
@@ -17,21 +18,21 @@ use Rattle.kilim_isolation_paths.proofs.Same.{fails_of}
 use Rattle.kilim_isolation_paths.proofs.Loops.{DoneBelow, DoneUpTo, AreReportsOf}
 
 -- a turn of `visit`
-pub visit_step : {S : Type 0} (m : Machine S) (fits : ℕ → S → Type 0) (s t u : Stored S) (fs gs hs : List Found) (at n : ℕ) (to full : Option ℕ) (e : Reached S) → Later s.entries t.entries fs gs → DoneBelow m s.entries t.entries gs at n → IsAt s.entries at e → slice_get (m.exits e.place) n ≡ Some to → Took m fits t u gs hs at to full → full ≡ None →
+pub visit_step : {S : Type 0} (m : Machine S) (fits : ℕ → S → Type 0) (s t u : Stored S) (fs gs hs : List Found) (at n : ℕ) (to : Exit) (full : Option ℕ) (e : Reached S) → Later s.entries t.entries fs gs → DoneBelow m s.entries t.entries gs at n → IsAt s.entries at e → slice_get (m.exits e.place) n ≡ Some to → Took m fits t u gs hs at to full → full ≡ None →
     Good m fits u hs × Later s.entries u.entries fs hs × DoneBelow m s.entries u.entries hs at (n + 1)
 visit_step {S} m fits s t u fs gs hs at n to full e l d i x took is =
     let now : Took m fits t u gs hs at to None = subst (λ (o : Option ℕ). Took m fits t u gs hs at to o) is took in (
       now.0,
       then_later s.entries t.entries u.entries fs gs hs l now.1,
       λ y j k o b h. elim (cases_lt k n) [
-        | inl c ↦ done_later t.entries u.entries gs hs y.place o (m.moves y.place y.state o) now.1 (d y j k o c h)
+        | inl c ↦ done_later t.entries u.entries gs hs y.place (target o) (m.moves y.place y.state o) now.1 (d y j k o c h)
         | inr c ↦ (let same : e ≡ y = cc in
             let here : k ≡ n = omega arith in
             let there : slice_get (m.exits y.place) n ≡ Some to = subst (λ (z : Reached S). slice_get (m.exits z.place) n ≡ Some to) same x in
             let again : slice_get (m.exits y.place) n ≡ Some o = subst (λ (z : ℕ). slice_get (m.exits y.place) z ≡ Some o) here h in
             let equal : to ≡ o = cc in
             let after : IsAt t.entries at y = subst (λ (es : List (Reached S)). IsAt es at y) (sym l.is) (get_left s.entries l.more at y j) in
-            subst (λ (z : Option ℕ). IsDone u.entries hs y.place z (m.moves y.place y.state z)) equal (now.2 y after))
+            subst (λ (z : Exit). IsDone u.entries hs y.place (target z) (m.moves y.place y.state z)) equal (now.2 y after))
       ],
     )
 
@@ -43,19 +44,19 @@ visit_start m es fs at e i k to b h = absurd (omega arith)
 pub at_later : {S : Type 0} (es new more : List (Reached S)) (at : ℕ) → new ≡ es ++ more → at < length es → at < length new
 at_later es new more at is b = let n : length new ≡ length es + length more = ap length is ∙ length-append es more in omega arith
 
-pub exit_of : {S : Type 0} (m : Machine S) (es new more : List (Reached S)) (at n : ℕ) (to : Option ℕ) (e x : Reached S) → new ≡ es ++ more → IsAt es at e → slice_get (m.exits e.place) n ≡ Some to → IsAt new at x → Has (m.exits x.place) to
+pub exit_of : {S : Type 0} (m : Machine S) (es new more : List (Reached S)) (at n : ℕ) (to : Exit) (e x : Reached S) → new ≡ es ++ more → IsAt es at e → slice_get (m.exits e.place) n ≡ Some to → IsAt new at x → Has (m.exits x.place) to
 exit_of m es new more at n to e x is i h j =
     let there : IsAt new at e = subst (λ (ls : List (Reached _)). IsAt ls at e) (sym is) (get_left es more at e i) in
     let same : e ≡ x = cc in
     subst (λ (z : Reached _). Has (m.exits z.place) to) same (n, h)
 
-pub exit_inside : (xs ys : List (Option ℕ)) (n size most : ℕ) → xs ≡ ys → n < length xs → AllByRecursion (λ x. IfSome x (λ q. q < most)) ys → size ≡ most → IfSome (get_or xs n None) (λ q. q < size)
-exit_inside xs ys n size most e b a s =
-    subst (λ (k : ℕ). IfSome (get_or xs n None) (λ q. q < k)) (sym s)
-    (has_in (λ (x : Option ℕ). IfSome x (λ q. q < most)) ys (get_or xs n None) a (n, ap (λ (zs : List (Option ℕ)). slice_get zs n) (sym e) ∙ slice_get-get_or xs n None b))
+pub exit_inside : (xs ys : List Exit) (n size most : ℕ) (d : Exit) → xs ≡ ys → n < length xs → AllByRecursion (λ x. IfSome (target x) (λ q. q < most)) ys → size ≡ most → IfSome (target (get_or xs n d)) (λ q. q < size)
+exit_inside xs ys n size most d e b a s =
+    subst (λ (k : ℕ). IfSome (target (get_or xs n d)) (λ q. q < k)) (sym s)
+    (has_in (λ (x : Exit). IfSome (target x) (λ q. q < most)) ys (get_or xs n d) a (n, ap (λ (zs : List Exit). slice_get zs n) (sym e) ∙ slice_get-get_or xs n d b))
 
 -- where a place is full
-pub visit_full : {S : Type 0} (m : Machine S) (fits : ℕ → S → Type 0) (s t u : Stored S) (fs gs hs : List Found) (at : ℕ) (to full : Option ℕ) → Took m fits t u gs hs at to full → is_some full ≡ true → Visited m fits s u fs hs at full
+pub visit_full : {S : Type 0} (m : Machine S) (fits : ℕ → S → Type 0) (s t u : Stored S) (fs gs hs : List Found) (at : ℕ) (to : Exit) (full : Option ℕ) → Took m fits t u gs hs at to full → is_some full ≡ true → Visited m fits s u fs hs at full
 visit_full m fits s t u fs gs hs at to None took is = absurd (cc)
 visit_full m fits s t u fs gs hs at to (Some q) took is = took
 
@@ -75,7 +76,7 @@ search_step {S} m fits s t fs gs at full d b visited is =
       λ k e c h.
           let old : IsAt s.entries k e = get_below s.entries l.more k e (omega arith) (subst (λ (es : List (Reached S)). IsAt es k e) l.is h) in
           elim (cases_lt k at) [
-            | inl a ↦ λ j to x. done_later s.entries t.entries fs gs e.place to (m.moves e.place e.state to) l (d k e a old j to x)
+            | inl a ↦ λ j to x. done_later s.entries t.entries fs gs e.place (target to) (m.moves e.place e.state to) l (d k e a old j to x)
             | inr a ↦ (let here : k ≡ at = omega arith in now.2 e (subst (λ (z : ℕ). IsAt s.entries z e) here old))
           ],
     )
@@ -84,17 +85,17 @@ pub search_end : {S : Type 0} (m : Machine S) (es : List (Reached S)) (gs : List
 search_end m es gs at d b k e h = let w = slice_get_within es k e h in d k e (omega arith) h
 
 module _ {S : Type 0} (m : Machine S) (fits : ℕ → S → Type 0) (t : Stored S) (gs : List Found) (good : Good m fits t gs) (done : (k : ℕ) (e : Reached S) → IsAt t.entries k e → AreDone m t.entries gs e) where
-  step_done : (p : ℕ) (s : S) (to : Option ℕ) → Has (states_at p t.entries) s → Has (m.exits p) to → IsDone t.entries gs p to (m.moves p s to)
+  step_done : (p : ℕ) (s : S) (to : Exit) → Has (states_at p t.entries) s → Has (m.exits p) to → IsDone t.entries gs p (target to) (m.moves p s to)
   step_done p s to h x =
       let r = entry_of t.entries p s h in
       let there : Has (m.exits r.e.place) to = subst (λ (z : ℕ). Has (m.exits z) to) (sym r.place) x in
       let d = done r.k r.e r.is there.0 to there.1 in
-      subst (λ (z : ℕ). IsDone t.entries gs z to (m.moves z s to)) r.place (subst (λ (y : S). IsDone t.entries gs r.e.place to (m.moves r.e.place y to)) r.state d)
+      subst (λ (z : ℕ). IsDone t.entries gs z (target to) (m.moves z s to)) r.place (subst (λ (y : S). IsDone t.entries gs r.e.place (target to) (m.moves r.e.place y to)) r.state d)
 
   arrived : (path : List ℕ) (q : ℕ) (s : S) → ArrivesBy m path q s → Has (states_at q t.entries) s
   arrived [] q s a = absurd a
   arrived (p ∷ rest) q s a =
-      stays m t.entries (λ p q s u h x e. subst (λ (r : Result S ℕ). IsDone t.entries gs p (Some q) r) e (step_done p s (Some q) h x)) rest 0 m.entry q s good.known.start a.1
+      stays m t.entries (λ p q s u to is h x e. subst (λ (r : Result S ℕ). IsDone t.entries gs p (Some q) r) e (subst (λ (o : Option ℕ). IsDone t.entries gs p o (m.moves p s to)) is (step_done p s to h x))) rest 0 m.entry q s good.known.start a.1
 
   noted_of : (p : ℕ) (to : Option ℕ) (rule : ℕ) → IsDone t.entries gs p to (Err rule) → IsNoted gs p rule
   noted_of p None rule d = d
@@ -106,7 +107,7 @@ module _ {S : Type 0} (m : Machine S) (fits : ℕ → S → Type 0) (t : Stored 
 
   pub fault_noted : (path : List ℕ) (pc rule : ℕ) → Fails m path pc rule → IsNoted gs pc rule
   fault_noted path pc rule f =
-      noted_of pc f.1 rule (subst (λ (r : Result S ℕ). IsDone t.entries gs pc f.1 r) f.4 (step_done pc f.0 f.1 (arrived path pc f.0 f.2) f.3))
+      noted_of pc (target f.1) rule (subst (λ (r : Result S ℕ). IsDone t.entries gs pc (target f.1) r) f.4 (step_done pc f.0 f.1 (arrived path pc f.0 f.2) f.3))
 
   pub not_crowded : (place : ℕ) → IsCrowded m place → ⊥
   not_crowded place c =

@@ -1,7 +1,8 @@
 -- What the loops keep
 use Rattle.std.proofs.Common.{◌≡◌, ℕ, ◌<◌, List, ◌∷◌, slice_get, Some, Option, reverse}
 use Rattle.std.specs.List.{AllByRecursion, AllZip}
-use Rattle.kilim_isolation_paths.specs.Paths.{Machine, Leads}
+use Rattle.kilim_isolation_paths.specs.declared.machine.Exit.{Exit}
+use Rattle.kilim_isolation_paths.specs.Paths.{Machine, Leads, target}
 use Rattle.kilim_isolation_paths.specs.Search.{AreLinked, IsFound, IsDone, AreDone, IsAt, IsReportOf}
 use Rattle.kilim_isolation_paths.specs.declared.store.Reached.{Reached}
 use Rattle.kilim_isolation_paths.specs.declared.found.Found.{Found}
@@ -9,7 +10,7 @@ use Rattle.kilim_isolation_paths.specs.declared.report.Report.{Report}
 
 -- the first n steps of the entry are taken in
 abbrev pub DoneBelow : {S : Type 0} → Machine S → (es new : List (Reached S)) → List Found → ℕ → ℕ → Type 0
-DoneBelow {S} m es new gs at n = (e : Reached S) → IsAt es at e → (k : ℕ) (to : Option ℕ) → k < n → slice_get (m.exits e.place) k ≡ Some to → IsDone new gs e.place to (m.moves e.place e.state to)
+DoneBelow {S} m es new gs at n = (e : Reached S) → IsAt es at e → (k : ℕ) (to : Exit) → k < n → slice_get (m.exits e.place) k ≡ Some to → IsDone new gs e.place (target to) (m.moves e.place e.state to)
 
 -- all steps of the first n entries are
 abbrev pub DoneUpTo : {S : Type 0} → Machine S → List (Reached S) → List Found → ℕ → Type 0

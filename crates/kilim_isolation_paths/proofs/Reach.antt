@@ -5,7 +5,8 @@ use Rattle.std.proofs.lemmas.List.{reverse-append}
 use Rattle.std.proofs.lemmas.Option.{slice_get_within}
 use Rattle.kilim_isolation_paths.proofs.Loops.{LeadsBack}
 use Rattle.std.proofs.lemmas.Bool.{ne_eqb, eq-eqb, cases_eq}
-use Rattle.kilim_isolation_paths.specs.Paths.{Has, Machine, Leads, ArrivesBy, Reaches}
+use Rattle.kilim_isolation_paths.specs.declared.machine.Exit.{Exit}
+use Rattle.kilim_isolation_paths.specs.Paths.{Has, Machine, Leads, ArrivesBy, Reaches, target}
 use Rattle.kilim_isolation_paths.specs.Search.{states_at, AreLinked}
 use Rattle.kilim_isolation_paths.specs.declared.store.Reached.{Reached}
 use Rattle.kilim_isolation_paths.proofs.Lists.{get_some}
@@ -15,7 +16,7 @@ pub back : {S : Type 0} (m : Machine S) (es : List (Reached S)) (k : ℕ) (e f :
 back m es k e f rest q t l h g d =
     let i = l (suc k) e h in
     let same : i.0 ≡ f = cc in
-    subst (λ (x : Reached _). Leads m x.place x.state (e.place ∷ rest) q t) same (e.state, i.3, i.4, d)
+    subst (λ (x : Reached _). Leads m x.place x.state (e.place ∷ rest) q t) same (e.state, i.3, i.4, i.5, i.6, d)
 
 -- each entry is reached by a path
 reached_below : {S : Type 0} (m : Machine S) (es : List (Reached S)) (n k : ℕ) (e : Reached S) (rest : List ℕ) (q : ℕ) (t : S) → AreLinked m es → k < n → slice_get es k ≡ Some e → Leads m e.place e.state rest q t → Reaches m q t
@@ -25,16 +26,16 @@ reached_below m es (suc n) zero e rest q t l b h d =
     (0 ∷ rest, (refl, subst (λ (x : ℕ). Leads m x m.entry rest q t) i.0 (subst (λ (x : _). Leads m e.place x rest q t) i.1 d)))
 reached_below m es (suc n) (suc k) e rest q t l b h d =
     let i = l (suc k) e h in
-    reached_below m es n e.from i.0 (e.place ∷ rest) q t l (omega arith) i.2 (e.state, i.3, i.4, d)
+    reached_below m es n e.from i.0 (e.place ∷ rest) q t l (omega arith) i.2 (e.state, i.3, i.4, i.5, i.6, d)
 
 pub reached : {S : Type 0} (m : Machine S) (es : List (Reached S)) (k : ℕ) (e : Reached S) → AreLinked m es → slice_get es k ≡ Some e → Reaches m e.place e.state
 reached m es k e l h = reached_below m es (suc k) k e [] e.place e.state l (omega arith) h (refl, refl)
 
 -- where the states are closed under steps, a path stays among them
-pub stays : {S : Type 0} (m : Machine S) (es : List (Reached S)) → ((p q : ℕ) (s t : S) → Has (states_at p es) s → Has (m.exits p) (Some q) → m.moves p s (Some q) ≡ Ok t → Has (states_at q es) t) →
+pub stays : {S : Type 0} (m : Machine S) (es : List (Reached S)) → ((p q : ℕ) (s t : S) (x : Exit) → target x ≡ Some q → Has (states_at p es) s → Has (m.exits p) x → m.moves p s x ≡ Ok t → Has (states_at q es) t) →
     (rest : List ℕ) (p : ℕ) (s : S) (q : ℕ) (t : S) → Has (states_at p es) s → Leads m p s rest q t → Has (states_at q es) t
 stays m es c [] p s q t h d = subst (λ (x : ℕ). Has (states_at x es) t) d.0 (subst (λ (x : _). Has (states_at p es) x) d.1 h)
-stays m es c (n ∷ rest) p s q t h d = stays m es c rest n d.0 q t (c p n s d.0 h d.1 d.2) d.3
+stays m es c (n ∷ rest) p s q t h d = stays m es c rest n d.0 q t (c p n s d.0 d.1 d.2 h d.3 d.4) d.5
 
 pub states-push : {S : Type 0} (q : ℕ) (es : List (Reached S)) (e : Reached S) → states_at q (es ++ e ∷ []) ≡ cond (nat_eq e.place q) (states_at q es ++ e.state ∷ []) (states_at q es)
 states-push q [] e = refl

@@ -4,7 +4,8 @@ use Rattle.std.specs.List.{AllByRecursion}
 use Rattle.std.proofs.lemmas.Bool.{ne_eqb, eq-eqb, cases_eq}
 use Rattle.std.proofs.lemmas.Option.{slice_get_within}
 use Rattle.std.proofs.lemmas.List.{append-nil}
-use Rattle.kilim_isolation_paths.specs.Paths.{Has, AreDifferent, Machine, Reaches, IsCrowded}
+use Rattle.kilim_isolation_paths.specs.declared.machine.Exit.{Exit}
+use Rattle.kilim_isolation_paths.specs.Paths.{Has, AreDifferent, Machine, Reaches, IsCrowded, target}
 use Rattle.kilim_isolation_paths.specs.Search.{states_at, AreLinked, IsLinked, Known, AreFew, IsFound, noted, IsDone, Good, Later, IsAt}
 use Rattle.kilim_isolation_paths.specs.Stored.{Stored}
 use Rattle.kilim_isolation_paths.specs.declared.store.Reached.{Reached}
@@ -31,11 +32,11 @@ states_other q es x n = states_append q es (x ∷ []) ∙ ap (λ b. states_at q 
 
 linked_left : {S : Type 0} (m : Machine S) (es fs : List (Reached S)) (k : ℕ) (e : Reached S) → IsLinked m es k e → IsLinked m (es ++ fs) k e
 linked_left m es fs zero e l = l
-linked_left m es fs (suc k) e l = (l.0, l.1, get_left es fs e.from l.0 l.2, l.3, l.4)
+linked_left m es fs (suc k) e l = (l.0, l.1, get_left es fs e.from l.0 l.2, l.3, l.4, l.5, l.6)
 
-linked_new : {S : Type 0} (m : Machine S) (es fs : List (Reached S)) (n : ℕ) (f x : Reached S) → x.from < n → IsAt es x.from f → Has (m.exits f.place) (Some x.place) → m.moves f.place f.state (Some x.place) ≡ Ok x.state → IsLinked m (es ++ fs) n x
-linked_new m es fs zero f x b h i s = absurd (omega arith)
-linked_new m es fs (suc n) f x b h i s = (f, b, get_left es fs x.from f h, i, s)
+linked_new : {S : Type 0} (m : Machine S) (es fs : List (Reached S)) (n : ℕ) (f x : Reached S) (to : Exit) → x.from < n → IsAt es x.from f → target to ≡ Some x.place → Has (m.exits f.place) to → m.moves f.place f.state to ≡ Ok x.state → IsLinked m (es ++ fs) n x
+linked_new m es fs zero f x to b h d i s = absurd (omega arith)
+linked_new m es fs (suc n) f x to b h d i s = (f, b, get_left es fs x.from f h, to, d, i, s)
 
 pub found_left : {S : Type 0} (m : Machine S) (es more : List (Reached S)) (fs : List Found) → AllByRecursion (IsFound m es) fs → AllByRecursion (IsFound m (es ++ more)) fs
 found_left m es more [] a = tt
@@ -71,11 +72,11 @@ pub noted_later : {S : Type 0} (es : List (Reached S)) (fs : List Found) (f : Fo
 noted_later es fs f = record { more = []; is = sym (append-nil es); noted = λ pc rule h. noted_keeps fs f pc rule h }
 
 -- a new state is pushed
-pub known_pushed : {S : Type 0} (m : Machine S) (fits : ℕ → S → Type 0) (es : List (Reached S)) (f x : Reached S) → Known m fits es → IsAt es x.from f → Has (m.exits f.place) (Some x.place) → m.moves f.place f.state (Some x.place) ≡ Ok x.state → x.place < m.size → fits x.place x.state → (Has (states_at x.place es) x.state → ⊥) → Known m fits (es ++ x ∷ [])
-known_pushed m fits es f x k at exit step small fit fresh = record {
+pub known_pushed : {S : Type 0} (m : Machine S) (fits : ℕ → S → Type 0) (es : List (Reached S)) (f x : Reached S) (to : Exit) → Known m fits es → IsAt es x.from f → target to ≡ Some x.place → Has (m.exits f.place) to → m.moves f.place f.state to ≡ Ok x.state → x.place < m.size → fits x.place x.state → (Has (states_at x.place es) x.state → ⊥) → Known m fits (es ++ x ∷ [])
+known_pushed m fits es f x to k at leads exit step small fit fresh = record {
   linked = λ j e h. elim (get_push es x j e h) [
     | inl a ↦ linked_left m es (x ∷ []) j e (k.linked j e a)
-    | inr b ↦ (let w = slice_get_within es x.from f at in subst (λ (y : Reached _). IsLinked m (es ++ x ∷ []) j y) b.1 (linked_new m es (x ∷ []) j f x (omega arith) at exit step))
+    | inr b ↦ (let w = slice_get_within es x.from f at in subst (λ (y : Reached _). IsLinked m (es ++ x ∷ []) j y) b.1 (linked_new m es (x ∷ []) j f x to (omega arith) at leads exit step))
   ];
   different = λ q. elim (cases_eq x.place q) [
     | inl s ↦ subst (λ (ss : List _). AreDifferent ss) (sym (states_same q es x s)) (different_push (states_at q es) x.state (k.different q) (subst (λ (z : ℕ). Has (states_at z es) x.state → ⊥) s fresh))

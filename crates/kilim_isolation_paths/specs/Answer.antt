@@ -3,6 +3,7 @@ use Rattle.std.specs.Prelude.{◌≡◌, ℕ, List, [], ◌∷◌, Bool, true, n
 use Rattle.std.specs.List.{AllByRecursion}
 use Rattle.kilim_isolation_paths.specs.Paths.{Machine, Has, Fails, IsCrowded}
 use Rattle.kilim_isolation_paths.specs.Folds.{FoldFails}
+use Rattle.kilim_isolation_paths.specs.declared.machine.Exit.{Exit}
 use Rattle.kilim_isolation_paths.specs.declared.report.Report.{Report}
 use Rattle.kilim_isolation_paths.specs.declared.report.Explored.{Explored}
 use Rattle.kilim_isolation_paths.specs.declared.report.Explored.TheVariants.{Faults, Crowded}
@@ -22,7 +23,7 @@ IsReported rs pc rule = (r : Report) × Has rs r × (r.pc ≡ pc) × (r.rule ≡
 -- exactly the faults of all paths
 pub record AreFaults {S : Type 0} (m : Machine S) (rs : List Report) : Type 0 where
   pub fail : AllByRecursion (λ r. Fails m r.path r.pc r.rule) rs
-  pub all : (rest : List ℕ) (pc rule : ℕ) → FoldFails m rest pc rule → IsReported rs pc rule
+  pub all : (rest : List (Exit × ℕ)) (pc rule : ℕ) → FoldFails m rest pc rule → IsReported rs pc rule
   pub ordered : AreInOrder rs
 
 -- the faults where no place is crowded, else a crowded place

@@ -1,7 +1,8 @@
 -- What the search keeps
 use Rattle.std.specs.Prelude.{◌≡◌, ℕ, zero, suc, ◌<◌, ◌≤◌, List, [], ◌∷◌, ◌++◌, Option, Some, None, Result, Ok, Err, slice_get, length, MatchOption, cond, nat_eq, Bool, true, nat_lt, ◌||◌, ◌&&◌}
 use Rattle.std.specs.List.{AllByRecursion}
-use Rattle.kilim_isolation_paths.specs.Paths.{Machine, Has, AreDifferent, IsCrowded, Fails}
+use Rattle.kilim_isolation_paths.specs.declared.machine.Exit.{Exit}
+use Rattle.kilim_isolation_paths.specs.Paths.{Machine, Has, AreDifferent, IsCrowded, Fails, target}
 use Rattle.kilim_isolation_paths.specs.declared.store.Reached.{Reached}
 use Rattle.kilim_isolation_paths.specs.declared.found.Found.{Found}
 use Rattle.kilim_isolation_paths.specs.declared.report.Report.{Report}
@@ -15,7 +16,7 @@ states_at q (e ∷ es) = cond (nat_eq e.place q) (e.state ∷ states_at q es) (s
 -- the first entry is the start, and each other one comes by a step from an earlier one
 abbrev pub IsLinked : {S : Type 0} → Machine S → List (Reached S) → ℕ → Reached S → Type 0
 IsLinked m es zero e = (e.place ≡ 0) × (e.state ≡ m.entry)
-IsLinked {S} m es (suc k) e = (f : Reached S) × (e.from < suc k) × (slice_get es e.from ≡ Some f) × Has (m.exits f.place) (Some e.place) × (m.moves f.place f.state (Some e.place) ≡ Ok e.state)
+IsLinked {S} m es (suc k) e = (f : Reached S) × (e.from < suc k) × (slice_get es e.from ≡ Some f) × (x : Exit) × (target x ≡ Some e.place) × Has (m.exits f.place) x × (m.moves f.place f.state x ≡ Ok e.state)
 
 abbrev pub AreLinked : {S : Type 0} → Machine S → List (Reached S) → Type 0
 AreLinked {S} m es = (k : ℕ) (e : Reached S) → slice_get es k ≡ Some e → IsLinked m es k e
@@ -33,7 +34,7 @@ AreFew es = (q : ℕ) → length (states_at q es) ≤ 256
 
 -- the fault was found by a step from its entry
 abbrev pub IsFound : {S : Type 0} → Machine S → List (Reached S) → Found → Type 0
-IsFound {S} m es f = (e : Reached S) × (to : Option ℕ) × (slice_get es f.at ≡ Some e) × (e.place ≡ f.pc) × Has (m.exits e.place) to × (m.moves e.place e.state to ≡ Err f.rule)
+IsFound {S} m es f = (e : Reached S) × (to : Exit) × (slice_get es f.at ≡ Some e) × (e.place ≡ f.pc) × Has (m.exits e.place) to × (m.moves e.place e.state to ≡ Err f.rule)
 
 -- the place comes first, then the rule
 abbrev pub before : Found → Found → Bool
@@ -51,7 +52,7 @@ abbrev pub noted : List Found → Found → List Found
 noted [] f = f ∷ []
 noted (g ∷ gs) f = cond (before g f) (g ∷ noted gs f) (cond (before f g) (f ∷ g ∷ gs) (g ∷ gs))
 
--- a step from the place was taken in: its state is there, or its fault is noted
+-- a step from the place to there, or out, was taken in: its state is there, or its fault is noted
 abbrev pub IsDone : {S : Type 0} → List (Reached S) → List Found → ℕ → Option ℕ → Result S ℕ → Type 0
 IsDone es fs p None (Ok t) = Unit {0}
 IsDone es fs p (Some q) (Ok t) = Has (states_at q es) t
@@ -59,7 +60,7 @@ IsDone es fs p to (Err rule) = IsNoted fs p rule
 
 -- all steps of the entry were taken in
 abbrev pub AreDone : {S : Type 0} → Machine S → List (Reached S) → List Found → Reached S → Type 0
-AreDone m es fs e = (k : ℕ) (to : Option ℕ) → slice_get (m.exits e.place) k ≡ Some to → IsDone es fs e.place to (m.moves e.place e.state to)
+AreDone m es fs e = (k : ℕ) (to : Exit) → slice_get (m.exits e.place) k ≡ Some to → IsDone es fs e.place (target to) (m.moves e.place e.state to)
 
 -- what holds at each moment
 pub record Good {S : Type 0} (m : Machine S) (fits : ℕ → S → Type 0) (s : Stored S) (fs : List Found) : Type 0 where
@@ -80,10 +81,10 @@ abbrev pub IsAt : {S : Type 0} → List (Reached S) → ℕ → Reached S → Ty
 IsAt es k e = slice_get es k ≡ Some e
 
 -- after one step of the entry at k, or after all: full where a place has too many states
-abbrev pub Took : {S : Type 0} → Machine S → (ℕ → S → Type 0) → Stored S → Stored S → List Found → List Found → ℕ → Option ℕ → Option ℕ → Type 0
+abbrev pub Took : {S : Type 0} → Machine S → (ℕ → S → Type 0) → Stored S → Stored S → List Found → List Found → ℕ → Exit → Option ℕ → Type 0
 Took {S} m fits s t fs gs k to full =
     MatchOption full
-    (Good m fits t gs × Later s.entries t.entries fs gs × ((e : Reached S) → IsAt s.entries k e → IsDone t.entries gs e.place to (m.moves e.place e.state to)))
+    (Good m fits t gs × Later s.entries t.entries fs gs × ((e : Reached S) → IsAt s.entries k e → IsDone t.entries gs e.place (target to) (m.moves e.place e.state to)))
     (λ q. IsCrowded m q)
 
 abbrev pub Visited : {S : Type 0} → Machine S → (ℕ → S → Type 0) → Stored S → Stored S → List Found → List Found → ℕ → Option ℕ → Type 0

@@ -2,12 +2,12 @@
 
 ghost use Rattle.std.specs.Prelude.{◌≡◌, ◌<◌, ◌≤◌, ◌++◌, ◌∷◌, [], ℕ, List, Option, Result, length, slice_get, IsTrue, ◌↔◌, IfOk, OnOk, OnErr, IfSome};
 ghost use Rattle.std.specs.List.{AllByRecursion, AllZip};
-ghost use Rattle.kilim_isolation_paths.specs.Paths.{Has};
+ghost use Rattle.kilim_isolation_paths.specs.Paths.{Has, target};
 ghost use Rattle.kilim_isolation_paths.specs.Search.{Good, Took, Visited, Searched, IsAt};
 ghost use Rattle.kilim_isolation_paths.specs.declared.store.Reached.{Reached};
 
 use crate::found::{Found, note};
-use crate::machine::Moves;
+use crate::machine::{Exit, Moves};
 use crate::store::Store;
 use kilim_units::NoMemory;
 
@@ -20,12 +20,12 @@ fn take<M: Moves>(
     store: &mut Store<M::State>,
     found: &mut Vec<Found>,
     at: usize,
-    exit: Option<u32>,
+    exit: Exit,
 ) -> Result<Option<u32>, NoMemory>
     requires good { Good (M.means machine.now) (M.fits machine.now) store.old found.old.items }
     requires at { at < length store.old.entries }
     requires exit { (e : Reached M.State) → IsAt store.old.entries at e → Has ((M.means machine.now).exits e.place) exit }
-    requires inside { IfSome exit (λ q. q < store.old.size) }
+    requires inside { IfSome (target exit) (λ q. q < store.old.size) }
     ensures { IfOk result (Took (M.means machine.now) (M.fits machine.now) store.old store.new found.old.items found.new.items at exit) }
 {
     let entry = store.get(at);
@@ -46,7 +46,7 @@ fn take<M: Moves>(
             }
         }
         Ok(state) => {
-            let Some(to) = exit else {
+            let Some(to) = exit.target() else {
                 return Ok(None);
             };
             if store.has(to, &state) {

@@ -111,13 +111,32 @@ abbrev pub given_result : Program → Option Ty → Graph → Graph
 given_result p None g = g
 given_result p (Some ty) g = given (kind_of p ty) g
 
-abbrev pub calls_with : Program → Method → List Passed → Graph → Deed
-calls_with p callee args g = record (plain (given_result p callee.result (popped (takes_from callee) (after_call p args g)))) {
+-- the argument rules, with the graph that is left
+abbrev pub passes_with : Program → List Passed → (g left : Graph) → Deed
+passes_with p args g left = record (plain left) {
   not_free = list_any (is_not_free p g) args;
   shared = any_two (shares p g) args;
   mixed = list_any (is_mixed p) args;
   not_cuttable = list_any (is_not_cuttable p g) args;
 }
+
+abbrev pub calls_with : Program → Method → List Passed → Graph → Deed
+calls_with p callee args g = passes_with p args g (given_result p callee.result (popped (takes_from callee) (after_call p args g)))
+
+-- ---- where a call raises: its arguments are taken, and an object is alone on the stack, which names no node
+
+abbrev pub handler_graph : Graph → Graph
+handler_graph g = record g { stack = None ∷ [] }
+
+-- the argument rules alone
+abbrev pub raises_with : Program → List Passed → Graph → Deed
+raises_with p args g = passes_with p args g (handler_graph (after_call p args g))
+
+abbrev pub call_raises : Program → Graph → (types : List VType) → Option Method → Deed
+call_raises p g ts None = plain (handler_graph g)
+call_raises p g ts (Some callee) = raises_with p (all_passed callee g ts) g
+
+-- ---- a call
 
 abbrev pub calls : Program → Graph → (types : List VType) → Option Method → Deed
 calls p g ts None = plain g

@@ -17,9 +17,9 @@ use Rattle.kilim_type_spec.specs.Step.{Types, peek, size, array_ty, rule, Form, 
 use Rattle.kilim_isolation_graph.specs.declared.graph.Graph.{Graph}
 use Rattle.kilim_isolation_graph.specs.Graphs.{slot, with_slot, push, popped}
 use Rattle.kilim_isolation_rules.specs.declared.deed.Deed.{Deed}
-use Rattle.kilim_isolation_rules.specs.Marks.{names_gone, names_no_root, is_tree, is_private, mixes, flow_mixes, plain, given, stack_lives}
+use Rattle.kilim_isolation_rules.specs.Marks.{names_gone, names_no_root, is_tree, is_private, mixes, any_mixes, flow_mixes, plain, given, stack_lives}
 use Rattle.kilim_isolation_rules.specs.Fields.{gets_field, puts_field, gets_element, puts_element}
-use Rattle.kilim_isolation_rules.specs.Calls.{calls}
+use Rattle.kilim_isolation_rules.specs.Calls.{call_raises, calls, handler_graph}
 
 -- ---- pop, dup and swap forms
 
@@ -85,6 +85,18 @@ deed p m g f Areturn = returns p m g f.stack
 deed p m g f (Checkcast ty) = record (plain g) { mixed = cast_mixes p (peek f.stack 0) (Object ty) }
 deed p m g f i = plain (by_types g f (row p m i))
 
+-- What an instruction makes of a graph where it raises: a call has taken its arguments, every other one has changed nothing.
+unfoldable pub raised_deed : Program → Graph → Types → Instr → Deed
+raised_deed p g f (Invokevirtual id) = call_raises p g f.stack (method_at p id)
+raised_deed p g f (Invokespecial id) = call_raises p g f.stack (method_at p id)
+raised_deed p g f (Invokestatic id) = call_raises p g f.stack (method_at p id)
+raised_deed p g f i = plain (handler_graph g)
+
+-- a tree becomes private in a local of the frame that is declared at a handler; what is caught is private itself
+abbrev pub locals_mix : Program → Types → Option Types → Bool
+locals_mix p f None = false
+locals_mix p f (Some d) = any_mixes p f.locals d.locals
+
 -- ---- the step
 
 -- What flows on is typed as the instruction leaves it; that a `new` leaves an object that isn't initialized yet is no
@@ -108,3 +120,7 @@ judged d flows =
 -- The next graph, or the least rule that is broken; `after` is the frame that is declared at the next place of the path.
 unfoldable pub moves : Program → Method → Graph → Types → Instr → Option Types → Result Graph ℕ
 moves p m g f i after = judged (deed p m g f i) (any_flow_mixes p (left_by p m i f) after)
+
+-- the next graph along a handler edge, or the least rule that is broken; `after` is the frame that is declared at the handler
+unfoldable pub to_handler : Program → Graph → Types → Instr → Option Types → Result Graph ℕ
+to_handler p g f i after = judged (raised_deed p g f i) (locals_mix p f after)

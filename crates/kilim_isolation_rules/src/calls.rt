@@ -6,10 +6,11 @@ ghost use Rattle.kilim_program.specs.Same.{is_constructor};
 ghost use Rattle.kilim_isolation_rules.specs.Calls as spec;
 ghost use Rattle.kilim_isolation_rules.specs.Marks.{marked};
 ghost use Rattle.kilim_isolation_graph.specs.Graphs.{popped, slot};
+ghost use Rattle.kilim_isolation_graph.specs.declared.graph.Graph.{Graph as AGraph};
 ghost use Rattle.kilim_type_spec.specs.Step.{peek};
 
 use crate::deed::{Broken, Passed, none_broken};
-use crate::growth::{give, pop};
+use crate::growth::{give, pop, push};
 use crate::marks::{mixes, names_no_root, names_safe};
 use crate::shuffles::first;
 use crate::steps::{cut, give_away};
@@ -308,6 +309,18 @@ fn give_result(program: &Program, result_ty: Option<Ty>, graph: &mut Graph) -> R
     }
 }
 
+// The rules that the arguments of a call break.
+fn broken_by(program: &Program, graph: &Graph, arguments: &[Passed]) -> Broken
+    ensures { (left : AGraph) → marked result left ≡ spec.passes_with program.now arguments.now graph.now left }
+{
+    let mut broken = none_broken();
+    broken.not_free = any_not_free(program, graph, arguments);
+    broken.shared = any_shared(program, graph, arguments);
+    broken.mixed = any_mixed(program, arguments);
+    broken.not_cuttable = any_not_cuttable(program, graph, arguments);
+    broken
+}
+
 // The graph after a call.
 fn call(
     alloc: Global,
@@ -337,15 +350,60 @@ fn call_with(
 ) -> Result<Broken, NoMemory>
     ensures { IfOk result (λ broken. marked broken graph.new ≡ spec.calls_with program.now callee.now arguments.now graph.old) }
 {
-    let mut broken = none_broken();
-    broken.not_free = any_not_free(program, graph, arguments);
-    broken.shared = any_shared(program, graph, arguments);
-    broken.mixed = any_mixed(program, arguments);
-    broken.not_cuttable = any_not_cuttable(program, graph, arguments);
+    let broken = broken_by(program, graph, arguments);
     let Ok(()) = call(alloc, program, callee, arguments, graph) else {
         return Err(NoMemory);
     };
     Ok(broken)
+}
+
+// One slot on the stack, which names no node.
+fn leave_one(alloc: Global, graph: &mut Graph) -> Result<(), NoMemory>
+    ensures { OnOk result (graph.new ≡ spec.handler_graph graph.old) }
+{
+    graph.stack = Seq::new(alloc);
+    push(graph, None)
+}
+
+// A call with these arguments that raises.
+fn raise_with(
+    alloc: Global,
+    program: &Program,
+    arguments: &[Passed],
+    graph: &mut Graph,
+) -> Result<Broken, NoMemory>
+    ensures { IfOk result (λ broken. marked broken graph.new ≡ spec.raises_with program.now arguments.now graph.old) }
+{
+    let broken = broken_by(program, graph, arguments);
+    let Ok(()) = pass_all(alloc, program, arguments, graph) else {
+        return Err(NoMemory);
+    };
+    let Ok(()) = leave_one(alloc, graph) else {
+        return Err(NoMemory);
+    };
+    Ok(broken)
+}
+
+/// A call that raises; one of no method takes no arguments.
+pub fn raise_in_call(
+    alloc: Global,
+    program: &Program,
+    graph: &mut Graph,
+    types: &[VType],
+    callee: Option<&Method>,
+) -> Result<Broken, NoMemory>
+    ensures { IfOk result (λ broken. marked broken graph.new ≡ spec.call_raises program.now graph.old types.now (option_copied callee.entry)) }
+{
+    let Some(callee) = callee else {
+        let Ok(()) = leave_one(alloc, graph) else {
+            return Err(NoMemory);
+        };
+        return Ok(none_broken());
+    };
+    let Ok(arguments) = all_passed(alloc, callee, graph, types) else {
+        return Err(NoMemory);
+    };
+    raise_with(alloc, program, arguments.as_slice(), graph)
 }
 
 /// A call; one of no method changes nothing.

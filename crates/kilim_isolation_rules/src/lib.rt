@@ -14,4 +14,4 @@ mod steps;
 pub use deed::{Deed, Passed};
 pub use growth::copied;
 pub use marks::any_mixes;
-pub use rules::{StepFault, deed_of, judge};
+pub use rules::{StepFault, deed_of, judge, raised_deed_of};

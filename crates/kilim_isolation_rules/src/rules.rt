@@ -15,7 +15,7 @@ ghost use Rattle.kilim_isolation_rules.specs.Answers.{IsStep};
 ghost use Rattle.kilim_isolation_rules.specs.Rules as spec;
 
 use crate::action::{Action, Words, action_of};
-use crate::calls::call_method;
+use crate::calls::{call_method, raise_in_call};
 use crate::deed::{Broken, Deed, as_deed, none_broken};
 use crate::fields::{gets_element, gets_field, puts_element, puts_field};
 use crate::growth::{copied, give, pop, push, set_local};
@@ -278,6 +278,49 @@ pub fn deed_of(
         return Err(NoMemory);
     };
     match act(alloc, program, method, &mut new, types, action_of(instr)) {
+        Ok(broken) => Ok(as_deed(broken, new)),
+        Err(fault) => {
+            drop(new);
+            Err(fault)
+        }
+    }
+}
+
+// What an instruction makes of a graph where it raises.
+#[tactic(auto, unfolding(crate::specs::Rules::raised_deed))]
+fn raise(
+    alloc: Global,
+    program: &Program,
+    graph: &mut Graph,
+    types: &[VType],
+    instr: &Instr,
+) -> Result<Broken, NoMemory>
+    ensures { IfOk result (λ broken. (f : Types) → f.stack ≡ types.now → marked broken graph.new ≡ spec.raised_deed program.now graph.old f instr.now) }
+{
+    let callee = match *instr {
+        Instr::Invokevirtual(id) | Instr::Invokespecial(id) | Instr::Invokestatic(id) => {
+            method_at(program, id)
+        }
+        _ => None,
+    };
+    raise_in_call(alloc, program, graph, types, callee)
+}
+
+/// What an instruction does to a graph where it raises, with a mark for each rule that it breaks: a call takes its arguments, every
+/// other one changes nothing; then the stack is one slot that names no node.
+pub fn raised_deed_of(
+    alloc: Global,
+    program: &Program,
+    graph: &Graph,
+    types: &[VType],
+    instr: &Instr,
+) -> Result<Deed, NoMemory>
+    ensures { IfOk result (λ deed. (f : Types) → f.stack ≡ types.now → deed ≡ spec.raised_deed program.now graph.now f instr.now) }
+{
+    let Ok(mut new) = copied(alloc, graph) else {
+        return Err(NoMemory);
+    };
+    match raise(alloc, program, &mut new, types, instr) {
         Ok(broken) => Ok(as_deed(broken, new)),
         Err(fault) => {
             drop(new);

@@ -1,12 +1,15 @@
 -- A pausable method keeps its receiver from its beginning on.
 use Rattle.std.specs.Prelude.{replicate}
-use Rattle.std.proofs.Common.{◌≡◌, inl, inr, cond, ℕ, ◌-◌, Bool, true, false, not, List, [], ◌∷◌, ◌++◌, length, Option, Some, None, refl, sym, ap, subst, ◌∙◌}
+use Rattle.std.proofs.Common.{◌≡◌, inl, inr, cond, ℕ, zero, suc, ◌-◌, Bool, true, false, not, List, [], ◌∷◌, ◌++◌, length, Option, Some, None, refl, sym, ap, subst, ◌∙◌}
 use Rattle.std.specs.Prelude.{◌&&◌}
 use Rattle.std.proofs.lemmas.Bool.{and_from, false≢true}
 use Rattle.kilim_program.specs.declared.class.Method.{Method}
 use Rattle.kilim_program.specs.declared.instr.Instr.{Instr}
+use Rattle.kilim_program.specs.declared.instr.Instr.TheVariants.{Athrow}
 use Rattle.kilim_program.specs.declared.names.ClassId.{ClassId}
 use Rattle.kilim_program.specs.declared.names.MethodId.{MethodId}
+use Rattle.kilim_program.specs.declared.ty.Base.{Base}
+use Rattle.kilim_program.specs.declared.ty.Base.TheVariants as base
 use Rattle.kilim_program.specs.declared.ty.Kind.{Kind}
 use Rattle.kilim_program.specs.declared.ty.Kind.TheVariants as kind
 use Rattle.kilim_program.specs.declared.ty.Qualifier.TheVariants as qualifier
@@ -24,11 +27,11 @@ use Rattle.kilim_isolation_laws.specs.forest.Heap.{IsForest}
 use Rattle.kilim_isolation_laws.specs.graph_rows.Holds.{HeapFits, IsOf, SlotFits, Sort, Tree, Trees, is_tree_sort, named_by, refers, sort, sort_by, trees, value_at, Waiting, Holds}
 use Rattle.kilim_isolation_laws.specs.graph_rows.Outcome.{CallHolds, EffectHolds}
 use Rattle.kilim_isolation_laws.proofs.graph_rows.Table.{rows_hold}
-use Rattle.kilim_isolation.specs.Walks.{declared_to, exits_to}
-use Rattle.kilim_isolation_rules.specs.Rules.{deed}
-use Rattle.kilim_isolation_paths.specs.Paths.{Has}
+use Rattle.kilim_isolation_laws.proofs.graph_rows.Words.{object_h}
+use Rattle.kilim_isolation.specs.Walks.{declared_to, is_throw}
+use Rattle.kilim_isolation_rules.specs.Rules.{deed, raised_deed}
 use Rattle.kilim_isolation_pauses.specs.Pausing.{is_free}
-use Rattle.kilim_run_machine.specs.Does.{does}
+use Rattle.kilim_run_machine.specs.Does.{does, throws_object}
 use Rattle.kilim_run_machine.specs.Effect.{Calls, Effect}
 use Rattle.kilim_run_state.specs.Machine.{Objects}
 use Rattle.kilim_program.specs.Members.{execute_of}
@@ -38,6 +41,7 @@ use Rattle.kilim_isolation_graph.specs.Entry.{declared_parameters, entry_names, 
 use Rattle.kilim_isolation_graph.specs.Graphs.{slot}
 use Rattle.kilim_isolation_laws.specs.Laws.{IsRunOfAccepted, listed_at}
 use Rattle.kilim_isolation_laws.specs.reached_objects.graphs.Threads.{ThreadFits, TopIsCoded, keeper}
+use Rattle.kilim_isolation_laws.proofs.reached_objects.live.Along.{some_by}
 use Rattle.kilim_isolation_laws.proofs.reached_objects.graphs.Beginning.{beginnings_keep}
 use Rattle.kilim_isolation_laws.proofs.reached_objects.graphs.Thread.{flows, method_begins}
 use Rattle.kilim_run_model.specs.State.{Setting}
@@ -55,9 +59,20 @@ use Rattle.kilim_fiber_spec.specs.Fibers.{frame}
 use Rattle.kilim_fiber_spec.specs.Form.{is_pausable}
 use Rattle.kilim_fiber_spec.specs.Thread.{Frame, code_in, fetch, first_of, own_in, own_of, self_in, self_of}
 
-some_exit : (es : List ℕ) → (to : Option ℕ) × Has (exits_to es) to
-some_exit [] = (None, (0, refl))
-some_exit (e ∷ es) = (Some e, (0, refl))
+abbrev NoCall : Effect → Type 0
+NoCall (Calls c args q l s h) = ⊥
+NoCall e = Unit {0}
+
+throws_none : (p : Program) (n dims : ℕ) (b : Base) → NoCall (throws_object p n dims b)
+throws_none p n zero (base.Class c) = tt
+throws_none p n zero b = tt
+throws_none p n (suc d) b = tt
+
+-- what calls a method doesn't throw
+calling : (p : Program) (m : Method) (i : Instr) (to : ℕ) (l s : List Value) (h : Objects) (c : MethodId) (args : List Value) (q : ℕ) (l2 s2 : List Value) (h2 : Objects) → does p m i to l s h ≡ Calls c args q l2 s2 h2 → is_throw i ≡ false
+unfolding does
+calling p m Athrow to l s h c args q l2 s2 h2 e = absurd (subst NoCall e (object_h NoCall tt (λ c. tt) (λ c. tt) s h _ (λ n object rest x y. throws_none p n object.class.dims object.class.base)))
+calling p m i to l s h c args q l2 s2 h2 e = refl
 
 ref_is : (a b : ℕ) → Some a ≡ Some b → a ≡ b
 ref_is a b e = cc
@@ -132,16 +147,16 @@ module _ (set : Setting) (run : IsRunOfAccepted set) where
       mine = ap (λ (o : Option Method). does set.program (own_in o) i to l s w.heap) (sym t.top_fits.is) ∙ e
 
       called : CallHolds set.program t.top_fits.method (flows set.program (typing_at set.program) (listed_at set.program) w.kept (rules_hold set run) (frame m p l s) (lone_frames b) w.heap t i to here).0
-          (deed set.program t.top_fits.method t.top_fits.graph (typing_at set.program m p) i).graph h c args l2 s2 t.below
+          (deed set.program t.top_fits.method t.top_fits.graph (typing_at set.program m p) i).graph (typing_at set.program m p) (raised_deed set.program t.top_fits.graph (typing_at set.program m p) i).graph h c args l2 s2 t.below
       called =
-          let exit = some_exit (edges i to) in
+          let out = some_by i to (calling set.program t.top_fits.method i to l s w.heap c args q l2 s2 h mine) in
           let flow = flows set.program (typing_at set.program) (listed_at set.program) w.kept (rules_hold set run) (frame m p l s) (lone_frames b) w.heap t i to here in
-          let passed = (((rules_hold set run).methods m t.top_fits.method t.top_fits.is t.top_fits.coded).passes t.top_fits.first t.top_fits.begins p t.top_fits.graph t.top_fits.reaches i to here exit.0 exit.1).passed in
-          let whole : EffectHolds set.program t.top_fits.method (edges i to) flow.0 (deed set.program t.top_fits.method t.top_fits.graph (typing_at set.program m p) i).graph t.top_fits.at t.below w.heap t.top_fits.graph.nodes (does set.program t.top_fits.method i to l s w.heap) =
+          let passed = (((rules_hold set run).methods m t.top_fits.method t.top_fits.is t.top_fits.coded).passes t.top_fits.first t.top_fits.begins p t.top_fits.graph t.top_fits.reaches i to here out.0 out.1).passed in
+          let whole : EffectHolds set.program t.top_fits.method (edges i to) flow.0 (deed set.program t.top_fits.method t.top_fits.graph (typing_at set.program m p) i).graph t.top_fits.at t.below w.heap t.top_fits.graph.nodes to (typing_at set.program m p) (raised_deed set.program t.top_fits.graph (typing_at set.program m p) i).graph (does set.program t.top_fits.method i to l s w.heap) =
           rows_hold set.program (rules_hold set run).keeps t.top_fits.method p to (typing_at set.program m p) flow.0 t.top_fits.graph (deed set.program t.top_fits.method t.top_fits.graph (typing_at set.program m p) i).graph t.top_fits.at w.heap l s t.below
-          (declared_to t.top_fits.method exit.0) i t.top_fits.stands
+          (declared_to t.top_fits.method out.0) i t.top_fits.stands
           (top_verified set run of (frame m p l s) (lone_frames b) w.heap is.fits.fits t.top_fits.method i to t.top_fits.is here) flow.1 passed here in
-          (subst (λ (z : Effect). EffectHolds set.program t.top_fits.method (edges i to) flow.0 (deed set.program t.top_fits.method t.top_fits.graph (typing_at set.program m p) i).graph t.top_fits.at t.below w.heap t.top_fits.graph.nodes z) mine whole).1
+          (subst (λ (z : Effect). EffectHolds set.program t.top_fits.method (edges i to) flow.0 (deed set.program t.top_fits.method t.top_fits.graph (typing_at set.program m p) i).graph t.top_fits.at t.below w.heap t.top_fits.graph.nodes to (typing_at set.program m p) (raised_deed set.program t.top_fits.graph (typing_at set.program m p) i).graph z) mine whole).2
 
       self_is : (z : Bool) → called.callee.is_static ≡ z → cond z Null (first_of args) ≡ Ref o
       self_is z st = sym (ap (λ (o : Option Method). self_in o args) called.is ∙ ap (λ (x : Bool). cond x Null (first_of args)) st) ∙ own

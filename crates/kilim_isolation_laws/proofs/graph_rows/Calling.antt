@@ -15,21 +15,19 @@ use Rattle.kilim_program.specs.declared.verified.VType.{VType}
 use Rattle.kilim_program.specs.Program.{Program}
 use Rattle.kilim_program.specs.BuiltIn.{class_type}
 use Rattle.kilim_program.specs.Kinds.{kind_of, is_tree_kind}
-use Rattle.kilim_run_state.specs.Machine.{Objects}
+use Rattle.kilim_run_state.specs.Machine.{Objects, slots_of}
 use Rattle.kilim_program.specs.Names.{method_at}
 use Rattle.kilim_program.specs.Same.{is_constructor}
 use Rattle.kilim_run_machine.specs.Effect.{is_wide}
-use Rattle.kilim_run_state.specs.Machine.{slots_of}
 use Rattle.kilim_type_spec.specs.Step.{Types, peek, class_vtype}
 use Rattle.kilim_type_spec.specs.Typed.{entry, param_slots, slots_of_type}
 use Rattle.kilim_isolation_laws.specs.forest.Heap.{Heap}
 use Rattle.kilim_isolation_laws.specs.forest.Relation.{Root, is_gone, is_safe, Label, Node, Named, Frames}
-use Rattle.kilim_isolation_laws.specs.forest.Steps.{IsCall, Qualifier, after_arguments, entry_node}
-use Rattle.kilim_isolation_rules.specs.Calls.{is_owned, arguments}
+use Rattle.kilim_isolation_laws.specs.forest.Steps.{IsCall, Qualifier, after_arguments, entry_node, IsNearly_tidy}
+use Rattle.kilim_isolation_rules.specs.Calls.{handler_graph, is_owned, arguments, quality_in, is_free, is_cuttable, same_region, shares, any_two, after_call, given_result}
 use Rattle.kilim_program.specs.declared.ty.Qualifier.TheVariants as qualifier
 use Rattle.kilim_isolation_laws.specs.forest.Canonical.{node_at}
 use Rattle.kilim_isolation_laws.proofs.forest.Store.{same_is}
-use Rattle.kilim_isolation_laws.specs.forest.Steps.{IsNearly_tidy}
 use Rattle.kilim_isolation_laws.proofs.forest.Less.{IsLess}
 use Rattle.kilim_isolation_laws.proofs.forest.View.{respects_less}
 use Rattle.kilim_isolation_laws.proofs.forest.Called.{owned_region, root_free, no_parent}
@@ -38,7 +36,6 @@ use Rattle.kilim_isolation_graph.specs.Graphs.{slot, popped}
 use Rattle.kilim_isolation_graph.specs.Nodes.{listed, is_root}
 use Rattle.kilim_isolation_rules.specs.declared.deed.Passed.{Passed}
 use Rattle.kilim_isolation_graph.specs.Entry.{parameters_of, declared_parameters, quality_from, tree_name, name_slots, entry_names, entry_nodes}
-use Rattle.kilim_isolation_rules.specs.Calls.{quality_in, is_free, is_cuttable, same_region, shares, any_two, after_call, given_result}
 use Rattle.kilim_isolation_laws.proofs.graph_rows.Passing.{IsAfter, after_is, behind, called, passed_at, quality_at}
 use Rattle.kilim_isolation_rules.specs.Marks.{names_no_root, names_safe}
 use Rattle.kilim_isolation_graph.specs.declared.entry.Parameter.{Parameter}
@@ -495,8 +492,10 @@ module _ (p : Program) (m : Method) (f : Types) (g : Graph) (at : ℕ → Option
           ap (λ z. value_by at (passed_at args z)) e
 
   pub call_holds : (id : MethodId) (types : Types) (k : ℕ) (rest : List Value) (f1 : Types) (g1 : Graph) → method_at p id ≡ Some callee → SlotsFit p m types (popped k (after_call p args g)) at h ls rest →
-      f1 ≡ record types { stack = type.result_types callee.result ++ types.stack } → g1 ≡ given_result p callee.result (popped k (after_call p args g)) → CallHolds p m f1 g1 h id vs ls rest below
-  call_holds id types k rest f1 g1 is s shape graph = record {
+      f1 ≡ record types { stack = type.result_types callee.result ++ types.stack } → g1 ≡ given_result p callee.result (popped k (after_call p args g)) → (raised : Graph) → raised ≡ handler_graph (after_call p args g) → ((j : ℕ) → sort p m (peek types.locals j) ≡ sort p m (peek f.locals j)) → CallHolds p m f1 g1 f raised h id vs ls rest below
+  call_holds id types k rest f1 g1 is s shape graph raised raised_is sorts = record {
+    raised_is = raised_is;
+    sorts = sorts;
     callee = callee;
     is = is;
     caller = waiting types k rest;
@@ -510,8 +509,10 @@ module _ (p : Program) (m : Method) (f : Types) (g : Graph) (at : ℕ → Option
   }
 
   pub native_holds : (id : MethodId) (k : ℕ) (rest : List Value) (f1 : Types) (g1 : Graph) → method_at p id ≡ Some callee → AreSlots p m h (named_by g at) (length g.nodes) (drop k f.stack) (drop k g.stack) rest →
-      f1 ≡ record f { stack = type.result_types callee.result ++ drop k f.stack } → g1 ≡ given_result p callee.result (popped k (after_call p args g)) → NativeHolds p m f1 g1 h id vs ls rest below
-  native_holds id k rest f1 g1 is s shape graph = record {
+      f1 ≡ record f { stack = type.result_types callee.result ++ drop k f.stack } → g1 ≡ given_result p callee.result (popped k (after_call p args g)) → (raised : Graph) → raised ≡ handler_graph (after_call p args g) → NativeHolds p m f1 g1 f raised h id vs ls rest below
+  native_holds id k rest f1 g1 is s shape graph raised raised_is = record {
+    raised_is = raised_is;
+    before = refl;
     callee = callee;
     is = is;
     types = f;

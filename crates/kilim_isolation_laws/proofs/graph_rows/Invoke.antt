@@ -22,25 +22,22 @@ use Rattle.kilim_isolation_laws.proofs.graph_rows.Settle.{not_true, or_left, or_
 use Rattle.kilim_isolation_laws.proofs.graph_rows.Words.{cond_h}
 use Rattle.kilim_isolation_laws.specs.graph_rows.Facts.{Agrees, AreOf, IsOfType, ProgramKeeps, class_of}
 use Rattle.kilim_isolation_laws.specs.graph_rows.Holds.{sort, type_sort, SlotFits, AreSlots, named_by, Waiting, Holds}
-use Rattle.kilim_isolation_laws.specs.graph_rows.Outcome.{ArgsFit}
-use Rattle.kilim_isolation_laws.specs.graph_rows.Outcome.{Left}
-use Rattle.kilim_isolation_rules.specs.Calls.{quality_in, parameters, receiver, all_passed, calls_with, after_call, takes_from, given_result, is_free, is_cuttable, shares, any_two}
-use Rattle.kilim_isolation_rules.specs.Marks.{mixes, names_gone, names_no_root, names_safe}
-use Rattle.kilim_isolation_rules.specs.Rules.{deed}
+use Rattle.kilim_isolation_laws.specs.graph_rows.Outcome.{ArgsFit, Left}
+use Rattle.kilim_isolation_rules.specs.Calls.{quality_in, parameters, receiver, all_passed, calls_with, after_call, takes_from, given_result, is_free, is_cuttable, shares, any_two, handler_graph}
+use Rattle.kilim_isolation_rules.specs.Marks.{mixes, names_gone, names_no_root, names_safe, given}
+use Rattle.kilim_isolation_rules.specs.Rules.{deed, raised_deed}
 use Rattle.kilim_isolation_rules.specs.declared.deed.Deed.{Deed}
 use Rattle.kilim_isolation_rules.specs.declared.deed.Passed.{Passed}
 use Rattle.kilim_run_machine.specs.Does.{calls_method}
 use Rattle.kilim_run_state.specs.Machine.{Objects}
 use Rattle.kilim_isolation_graph.specs.Entry.{quality, parameters_of, declared_parameters}
-use Rattle.kilim_isolation_graph.specs.Graphs.{slot, popped}
+use Rattle.kilim_isolation_graph.specs.Graphs.{slot, popped, push}
 use Rattle.kilim_isolation_graph.specs.declared.graph.Graph.{Graph}
 use Rattle.kilim_type_spec.specs.Step as type
 use Rattle.kilim_program.specs.Kinds.{kind_of}
 use Rattle.kilim_program.specs.declared.ty.Kind.TheVariants as kind
 use Rattle.kilim_program.specs.declared.value.Value.TheVariants.{Int}
 use Rattle.kilim_type_spec.specs.Typed.{Among, edges}
-use Rattle.kilim_isolation_graph.specs.Graphs.{push}
-use Rattle.kilim_isolation_rules.specs.Marks.{given}
 use Rattle.kilim_type_spec.specs.Step.{Types, peek, assignable, Operand, Is, meets, all_meet, arguments, class_vtype, by_row, row, type_step, virtual_row, virtual_rules, result_types, missing}
 use Rattle.std.proofs.Common.{◌≡◌, ℕ, ℤ, zero, suc, ◌+◌, true, false, true≢false, not, ◌&&◌, cond, List, [], ◌∷◌, ◌++◌, map, length, reverse, Option, Some, None, refl, sym, ap, subst, ◌∙◌, arith}
 use Rattle.std.proofs.lemmas.List.{length-reverse}
@@ -78,7 +75,7 @@ length_more (x ∷ os) o =
 
 module _ (p : Program) (k : ProgramKeeps p) (m : Method) (pl to : ℕ) (f f1 : Types) (g g1 : Graph) (at : ℕ → Option ℕ) (h : Objects) (ls st : List Value) (below : List Waiting) (after : Option Types) (i : Instr)
     (s : IsStep p m pl to f f1 g g1 at h ls st below after i) (edge : Among (edges i to) to) (named : Method) (sized : length named.qualifiers ≡ length named.params)
-    (deed_is : deed p m g f i ≡ calls_with p named (all_passed named g f.stack) g) where
+    (deed_is : deed p m g f i ≡ calls_with p named (all_passed named g f.stack) g) (raised_is : (raised_deed p g f i).graph ≡ handler_graph (after_call p (all_passed named g f.stack) g)) where
   passed : IsPassed p m g f i after g1
   passed = moves_passed p m g f i after g1 s.2
 
@@ -109,11 +106,12 @@ module _ (p : Program) (k : ProgramKeeps p) (m : Method) (pl to : ℕ) (f f1 : T
       AreSlots p m h (named_by g at) (length g.nodes) (drop (takes_from named) f.stack) (drop (takes_from named) g.stack) rest → f1 ≡ record f { stack = result_types named.result ++ drop (takes_from named) f.stack } →
       E p m pl to f f1 g g1 at h ls st below after i (calls_method (Some callee) run vals to ls rest h)
   call_left callee run found vals fits size result rest slots types = cond_h (E p m pl to f f1 g g1 at h ls st below after i) tt (λ c. tt) (λ c. tt) callee.built_in _ _
-      (λ built. (edge, native_holds p m f g at h ls st below s.0 (all_passed named g f.stack) vals callee fits free shared cuttable size run (takes_from named) rest f1 g1 found slots types_are graph_is))
+      (λ built. (edge, refl, native_holds p m f g at h ls st below s.0 (all_passed named g f.stack) vals callee fits free shared cuttable size run (takes_from named) rest f1 g1 found slots types_are graph_is (raised_deed p g f i).graph raised_is))
       (λ own. (
         edge,
+        refl,
         call_holds p m f g at h ls st below s.0 (all_passed named g f.stack) vals callee fits free shared cuttable size run (record f { stack = drop (takes_from named) f.stack }) (takes_from named) rest f1 g1 found
-            (caller_slots p m f g at h ls st below s.0 (all_passed named g f.stack) vals callee fits free shared cuttable (takes_from named) rest slots) types_are graph_is,
+            (caller_slots p m f g at h ls st below s.0 (all_passed named g f.stack) vals callee fits free shared cuttable (takes_from named) rest slots) types_are graph_is (raised_deed p g f i).graph raised_is (λ j. refl),
       ))
     where
       types_are : f1 ≡ record f { stack = result_types callee.result ++ drop (takes_from named) f.stack }

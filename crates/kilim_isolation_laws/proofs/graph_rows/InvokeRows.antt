@@ -1,11 +1,8 @@
 -- The rows of calls.
-use Rattle.kilim_program.specs.BuiltIn.{class_id}
-use Rattle.kilim_program.specs.BuiltIn.{class_type}
-use Rattle.kilim_program.specs.Kinds.{class_kind, is_tree_kind}
-use Rattle.kilim_program.specs.Kinds.{kind_of}
+use Rattle.kilim_program.specs.BuiltIn.{class_id, class_type}
+use Rattle.kilim_program.specs.Kinds.{class_kind, is_tree_kind, kind_of}
 use Rattle.kilim_program.specs.Lengths.{jump_targets, ends_path}
-use Rattle.kilim_program.specs.Names.{class_at, is_empty}
-use Rattle.kilim_program.specs.Names.{method_at}
+use Rattle.kilim_program.specs.Names.{class_at, is_empty, method_at}
 use Rattle.kilim_program.specs.Program.{Program}
 use Rattle.kilim_program.specs.Same.{is_constructor}
 use Rattle.kilim_program.specs.declared.class.Method.{Method}
@@ -23,45 +20,34 @@ use Rattle.kilim_isolation_laws.proofs.forest.Store.{both_ways}
 use Rattle.kilim_isolation_laws.specs.forest.Canonical.{node_at}
 use Rattle.kilim_isolation_laws.specs.forest.Relation.{is_gone, Named}
 use Rattle.kilim_isolation_laws.proofs.graph_rows.Calling.{call_holds, caller_holds, caller_slots}
-use Rattle.kilim_isolation_laws.proofs.graph_rows.Invoke.{all_fit, args_are, call_left, instance_left, length_more, receiver_class, receiver_on_stack, rest_on_stack, text_left}
+use Rattle.kilim_isolation_laws.proofs.graph_rows.Invoke.{all_fit, args_are, call_left, instance_left, length_more, receiver_class, receiver_on_stack, rest_on_stack, text_left, cuttable, free, graph, shared}
 use Rattle.kilim_isolation_laws.proofs.graph_rows.Invoking.{values_h, params_fit, arguments_are}
 use Rattle.kilim_isolation_laws.proofs.graph_rows.Passed.{takes_passed, rule_passed, ok_is, further_passed}
 use Rattle.kilim_isolation_laws.proofs.graph_rows.Plain.{IsStep, E, dropped}
 use Rattle.kilim_isolation_laws.proofs.graph_rows.Reading.{slot_lives}
 use Rattle.kilim_isolation_laws.proofs.graph_rows.Settle.{not_true, or_left, or_right, and_left, and_right, flow_slot}
-use Rattle.kilim_isolation_laws.proofs.graph_rows.Words.{class_of_h, cond_h, some_h, value_h}
-use Rattle.kilim_isolation_laws.proofs.graph_rows.Words.{on_receiver_h, receiver_h, when_h}
+use Rattle.kilim_isolation_laws.proofs.graph_rows.Words.{class_of_h, cond_h, some_h, value_h, on_receiver_h, receiver_h, when_h}
 use Rattle.kilim_isolation_laws.specs.graph_rows.Facts.{AreOf, ProgramKeeps, class_of}
-use Rattle.kilim_isolation_laws.specs.graph_rows.Holds.{SlotsFit, made_sort, value_at}
-use Rattle.kilim_isolation_laws.specs.graph_rows.Holds.{sort, object_sort, SlotFits, AreSlots, named_by, Waiting, Holds}
-use Rattle.kilim_isolation_laws.specs.graph_rows.Outcome.{ArgsFit}
-use Rattle.kilim_isolation_laws.specs.graph_rows.Outcome.{Left, CallHolds}
-use Rattle.kilim_isolation_rules.specs.Calls.{quality_in, parameters, receiver, all_passed, calls, calls_with, after_call, takes_from, given_result, is_free, is_cuttable, shares, any_two}
+use Rattle.kilim_isolation_laws.specs.graph_rows.Holds.{SlotsFit, made_sort, value_at, sort, object_sort, SlotFits, AreSlots, named_by, Waiting, Holds}
+use Rattle.kilim_isolation_laws.specs.graph_rows.Outcome.{ArgsFit, Left, CallHolds}
+use Rattle.kilim_isolation_rules.specs.Calls.{quality_in, parameters, receiver, all_passed, calls, calls_with, after_call, takes_from, given_result, is_free, is_cuttable, shares, any_two, call_raises, handler_graph}
 use Rattle.kilim_isolation_rules.specs.Marks.{mixes, names_gone}
-use Rattle.kilim_isolation_rules.specs.Rules.{deed}
+use Rattle.kilim_isolation_rules.specs.Rules.{deed, raised_deed}
 use Rattle.kilim_isolation_rules.specs.declared.deed.Passed.{Passed}
-use Rattle.kilim_run_machine.specs.Does.{calls_method, calls_text}
-use Rattle.kilim_run_machine.specs.Does.{does, calls_on, chosen}
-use Rattle.kilim_run_machine.specs.Does.{special, text_answers, at_unit, unit_at, is_text, bit, int_length}
-use Rattle.kilim_run_machine.specs.Effect.{Effect, Calls, Asks}
-use Rattle.kilim_run_machine.specs.Effect.{Goes, text_of}
+use Rattle.kilim_run_machine.specs.Does.{calls_method, calls_text, does, calls_on, chosen, special, text_answers, at_unit, unit_at, is_text, bit, int_length, takes_element}
+use Rattle.kilim_run_machine.specs.Effect.{Effect, Calls, Asks, Goes, text_of}
 use Rattle.kilim_run_state.specs.Machine.{Objects}
-use Rattle.kilim_run_machine.specs.Natives.{is_built_in_constructor, is_handed_out}
-use Rattle.kilim_run_machine.specs.Does.{takes_element}
-use Rattle.kilim_isolation_laws.proofs.graph_rows.Invoke.{cuttable, free, graph, shared}
-use Rattle.kilim_run_machine.specs.Natives.{is_text_method}
+use Rattle.kilim_run_machine.specs.Natives.{is_built_in_constructor, is_handed_out, is_text_method}
 use Rattle.kilim_isolation_graph.specs.Entry.{parameters_of, declared_parameters}
 use Rattle.kilim_isolation_graph.specs.Graphs.{slot, popped}
 use Rattle.kilim_isolation_graph.specs.declared.graph.Graph.{Graph}
 use Rattle.kilim_type_spec.specs.Step as type
-use Rattle.kilim_type_spec.specs.Step.{Types, peek, assignable, Operand, Is, meets, all_meet, arguments, class_vtype, by_row, row, type_step, virtual_row, virtual_rules, result_types, missing}
-use Rattle.kilim_type_spec.specs.Step.{is_class, made_at, one_replaced, replaced, special_fits, special_rules, special_row, superclass_at, is_same}
+use Rattle.kilim_type_spec.specs.Step.{Types, peek, assignable, Operand, Is, meets, all_meet, arguments, class_vtype, by_row, row, type_step, virtual_row, virtual_rules, result_types, missing, is_class, made_at, one_replaced, replaced, special_fits, special_rules, special_row, superclass_at, is_same}
 use Rattle.kilim_type_spec.specs.Typed.{Among, edges}
 use Rattle.std.proofs.Common.{◌==◌, ◌≡◌, ℕ, ℤ, pos, negsuc, zero, suc, ◌+◌, Bool, true, false, true≢false, not, ◌&&◌, ◌||◌, cond, List, [], ◌∷◌, ◌++◌, length, reverse, Option, Some, None, Ok, refl, sym, ap, subst, ◌∙◌, ◌⊎◌, inl, inr, arith}
 use Rattle.std.proofs.lemmas.List.{length-reverse}
 use Rattle.std.specs.List.{list_any}
-use Rattle.std.specs.Prelude.{codes}
-use Rattle.std.specs.Prelude.{drop, take, slice_get}
+use Rattle.std.specs.Prelude.{codes, drop, take, slice_get}
 use Rattle.std.specs.Str.{bytes_eq}
 
 -- ---- types that a constructor replaces
@@ -229,6 +215,10 @@ module _ (p : Program) (k : ProgramKeeps p) (m : Method) (pl to : ℕ) (f f1 : T
       unfolding deed
       deed_is = ap (calls p g f.stack) is
 
+      raised_is : (raised_deed p g f (instr.Invokevirtual id)).graph ≡ handler_graph (after_call p (all_passed named g f.stack) g)
+      unfolding raised_deed
+      raised_is = ap (λ z. (call_raises p g f.stack z).graph) is
+
       edge : Among (edges (instr.Invokevirtual id) to) to
       unfolding ends_path jump_targets
       edge = inl refl
@@ -236,14 +226,14 @@ module _ (p : Program) (k : ProgramKeeps p) (m : Method) (pl to : ℕ) (f f1 : T
       chosen_left : (c : Ty) → class_of p h r ≡ Some c → EI (instr.Invokevirtual id) (calls_method (method_at p (chosen p named id c)) (chosen p named id c) (r ∷ reverse vs) to ls rest h)
       chosen_left c of =
           let w = k.choose.selects id named is instance no_constructor c
-          (receiver_class p k m pl to f f1 g g1 at h ls st below after (instr.Invokevirtual id) s edge named (k.sized id named is) deed_is instance vs r rest e size no_constructor taken.0 taken.1 are c of) in
+          (receiver_class p k m pl to f f1 g g1 at h ls st below after (instr.Invokevirtual id) s edge named (k.sized id named is) deed_is raised_is instance vs r rest e size no_constructor taken.0 taken.1 are c of) in
           subst (λ z. EI (instr.Invokevirtual id) (calls_method z (chosen p named id c) (r ∷ reverse vs) to ls rest h)) (sym w.1)
-          (instance_left p k m pl to f f1 g g1 at h ls st below after (instr.Invokevirtual id) s edge named (k.sized id named is) deed_is instance vs r rest e size no_constructor taken.0 taken.1 w.0 (chosen p named id c) w.1 w.2)
+          (instance_left p k m pl to f f1 g g1 at h ls st below after (instr.Invokevirtual id) s edge named (k.sized id named is) deed_is raised_is instance vs r rest e size no_constructor taken.0 taken.1 w.0 (chosen p named id c) w.1 w.2)
 
       number_left : is_text_method p named ≡ true → (x : ℤ) → EI (instr.Invokevirtual id) (Goes to ls (Int x ∷ rest) h)
       number_left text x =
           let w = k.texts id named is text instance no_constructor in
-          (edge, text_left p k m pl to f f1 g g1 at h ls st below after (instr.Invokevirtual id) s edge named (k.sized id named is) deed_is instance vs r rest e size no_constructor taken.0 taken.1 w.0 w.1 w.2 w.3 x)
+          (edge, text_left p k m pl to f f1 g g1 at h ls st below after (instr.Invokevirtual id) s edge named (k.sized id named is) deed_is raised_is instance vs r rest e size no_constructor taken.0 taken.1 w.0 w.1 w.2 w.3 x)
 
       answers_h : ((x : ℤ) → EI (instr.Invokevirtual id) (Goes to ls (Int x ∷ rest) h)) → (units : List ℕ) (as1 : List Value) → EI (instr.Invokevirtual id) (text_answers named.name units as1 (λ v. Goes to ls (v ∷ rest) h))
       answers_h w units [] = when_h (EI (instr.Invokevirtual id)) tt (λ c. tt) (λ c. tt) (bytes_eq named.name (codes "length")) _ (λ q. w (int_length (length units)))
@@ -280,6 +270,10 @@ module _ (p : Program) (k : ProgramKeeps p) (m : Method) (pl to : ℕ) (f f1 : T
     unfolding deed
     special_deed named is = ap (calls p g f.stack) is
 
+    special_raised : (named : Method) → method_at p id ≡ Some named → (raised_deed p g f (instr.Invokespecial id)).graph ≡ handler_graph (after_call p (all_passed named g f.stack) g)
+    unfolding raised_deed
+    special_raised named is = ap (λ z. (call_raises p g f.stack z).graph) is
+
     special_edge : Among (edges (instr.Invokespecial id) to) to
     unfolding ends_path jump_targets
     special_edge = inl refl
@@ -313,7 +307,7 @@ module _ (p : Program) (k : ProgramKeeps p) (m : Method) (pl to : ℕ) (f f1 : T
       special_left =
           let w = k.choose.specials m id named is passed_rules.0 plain passed_rules.2 passed_rules.1 in
           subst (λ z. EI (instr.Invokespecial id) (calls_method z (special p m named id) (r ∷ reverse vs) to ls rest h)) (sym w.1)
-          (instance_left p k m pl to f f1 g g1 at h ls st below after (instr.Invokespecial id) s special_edge named (k.sized id named is) (special_deed named is) passed_rules.0 vs r rest e size plain special_taken.0 special_taken.1 w.0 (special p m named id) w.1 w.2)
+          (instance_left p k m pl to f f1 g g1 at h ls st below after (instr.Invokespecial id) s special_edge named (k.sized id named is) (special_deed named is) (special_raised named is) passed_rules.0 vs r rest e size plain special_taken.0 special_taken.1 w.0 (special p m named id) w.1 w.2)
 
     -- a constructor
     module _ (named : Method) (is : method_at p id ≡ Some named) (con : is_constructor named ≡ true) (vs : List Value) (r : Value) (rest : List Value) (e : st ≡ vs ++ r ∷ rest) (size : length vs ≡ length named.params) where
@@ -337,7 +331,7 @@ module _ (p : Program) (k : ProgramKeeps p) (m : Method) (pl to : ℕ) (f f1 : T
       on_top : (peek f.stack (length named.params) ≡ built.2.old) × (drop (takes_from named) f.stack ≡ built.2.rest)
       on_top =
           let w = peek_drop (length (arguments named)) f.stack built.2.old built.2.rest built.2.is in
-          (ap (peek f.stack) (sym count) ∙ w.0, ap (λ n. drop n f.stack) (Rattle.kilim_isolation_laws.proofs.graph_rows.Invoke.takes_is p k m pl to f f1 g g1 at h ls st below after (instr.Invokespecial id) s special_edge named (k.sized id named is) (special_deed named is) built.1 vs r rest e size ∙ plus_one (length named.params) ∙ ap suc (sym count)) ∙ w.1)
+          (ap (peek f.stack) (sym count) ∙ w.0, ap (λ n. drop n f.stack) (Rattle.kilim_isolation_laws.proofs.graph_rows.Invoke.takes_is p k m pl to f f1 g g1 at h ls st below after (instr.Invokespecial id) s special_edge named (k.sized id named is) (special_deed named is) (special_raised named is) built.1 vs r rest e size ∙ plus_one (length named.params) ∙ ap suc (sym count)) ∙ w.1)
         where
           plus_one : (n : ℕ) → n + 1 ≡ suc n
           plus_one n = omega arith
@@ -347,23 +341,23 @@ module _ (p : Program) (k : ProgramKeeps p) (m : Method) (pl to : ℕ) (f f1 : T
 
       receiver_here : SlotFits p h (named_by g at) (length g.nodes) (object_sort p (class_type built.2.made.0)) (slot g.stack (length named.params)) r
       receiver_here = subst (λ z. SlotFits p h (named_by g at) (length g.nodes) z (slot g.stack (length named.params)) r) (ap (sort p m) on_top.0 ∙ built.2.sort_is)
-          (receiver_on_stack p k m pl to f f1 g g1 at h ls st below after (instr.Invokespecial id) s special_edge named (k.sized id named is) (special_deed named is) built.1 vs r rest e size)
+          (receiver_on_stack p k m pl to f f1 g g1 at h ls st below after (instr.Invokespecial id) s special_edge named (k.sized id named is) (special_deed named is) (special_raised named is) built.1 vs r rest e size)
 
       rest_here : AreSlots p m h (named_by g at) (length g.nodes) (drop (takes_from named) f.stack) (drop (takes_from named) g.stack) rest
-      rest_here = rest_on_stack p k m pl to f f1 g g1 at h ls st below after (instr.Invokespecial id) s special_edge named (k.sized id named is) (special_deed named is) built.1 vs r rest e size
+      rest_here = rest_on_stack p k m pl to f f1 g g1 at h ls st below after (instr.Invokespecial id) s special_edge named (k.sized id named is) (special_deed named is) (special_raised named is) built.1 vs r rest e size
 
       params_are : parameters_of named ≡ record { ty = class_type named.owner.0; qualifier = named.receiver } ∷ declared_parameters named.params named.qualifiers
       params_are = ap (λ b. cond b (declared_parameters named.params named.qualifiers) (record { ty = class_type named.owner.0; qualifier = named.receiver } ∷ declared_parameters named.params named.qualifiers)) built.1
 
       fits : object_sort p (class_type built.2.made.0) ≡ object_sort p (class_type named.owner.0) → ArgsFit p h (named_by g at) (length g.nodes) (all_passed named g f.stack) (r ∷ reverse vs) (parameters_of named)
-      fits same = all_fit p k m pl to f f1 g g1 at h ls st below after (instr.Invokespecial id) s special_edge named (k.sized id named is) (special_deed named is) built.1 vs r rest e size [] (ap (λ z. all_meet p z f.stack) (append_nil (arguments named)) ∙ built.0) named params_are
+      fits same = all_fit p k m pl to f f1 g g1 at h ls st below after (instr.Invokespecial id) s special_edge named (k.sized id named is) (special_deed named is) (special_raised named is) built.1 vs r rest e size [] (ap (λ z. all_meet p z f.stack) (append_nil (arguments named)) ∙ built.0) named params_are
           (subst (λ z. SlotFits p h (named_by g at) (length g.nodes) z (slot g.stack (length named.params)) r) same receiver_here) refl
 
       slots : (same : object_sort p (class_type built.2.made.0) ≡ object_sort p (class_type named.owner.0)) → SlotsFit p m (record { locals = replaced built.2.old built.2.new f.locals; stack = replaced built.2.old built.2.new built.2.rest; unset = built.2.unset })
           (popped (takes_from named) (after_call p (all_passed named g f.stack) g)) at h ls rest
       slots same = replaced_fit p m built.2.old built.2.new built.2.same f built.2.unset built.2.rest (popped (takes_from named) (after_call p (all_passed named g f.stack) g)) at h ls rest
           (subst (λ z. SlotsFit p m (record f { stack = z }) (popped (takes_from named) (after_call p (all_passed named g f.stack) g)) at h ls rest) on_top.1
-          (caller_slots p m f g at h ls st below s.0 (all_passed named g f.stack) (r ∷ reverse vs) named (fits same) (free p k m pl to f f1 g g1 at h ls st below after (instr.Invokespecial id) s special_edge named (k.sized id named is) (special_deed named is)) (shared p k m pl to f f1 g g1 at h ls st below after (instr.Invokespecial id) s special_edge named (k.sized id named is) (special_deed named is)) (cuttable p k m pl to f f1 g g1 at h ls st below after (instr.Invokespecial id) s special_edge named (k.sized id named is) (special_deed named is)) (takes_from named) rest rest_here))
+          (caller_slots p m f g at h ls st below s.0 (all_passed named g f.stack) (r ∷ reverse vs) named (fits same) (free p k m pl to f f1 g g1 at h ls st below after (instr.Invokespecial id) s special_edge named (k.sized id named is) (special_deed named is) (special_raised named is)) (shared p k m pl to f f1 g g1 at h ls st below after (instr.Invokespecial id) s special_edge named (k.sized id named is) (special_deed named is) (special_raised named is)) (cuttable p k m pl to f f1 g g1 at h ls st below after (instr.Invokespecial id) s special_edge named (k.sized id named is) (special_deed named is) (special_raised named is)) (takes_from named) rest rest_here))
 
       same_sort : (named.built_in ≡ true → class_kind p named.owner ≡ kind.Private → ⊥) → object_sort p (class_type built.2.made.0) ≡ object_sort p (class_type named.owner.0)
       same_sort not_private = elim built.2.owner [
@@ -377,7 +371,7 @@ module _ (p : Program) (k : ProgramKeeps p) (m : Method) (pl to : ℕ) (f f1 : T
       constructs_left : named.built_in ≡ false → EI (instr.Invokespecial id) (calls_method (method_at p (special p m named id)) (special p m named id) (r ∷ reverse vs) to ls rest h)
       constructs_left own = subst (λ z. EI (instr.Invokespecial id) (calls_method (method_at p z) z (r ∷ reverse vs) to ls rest h)) (sym itself)
           (subst (λ z. EI (instr.Invokespecial id) (calls_method z id (r ∷ reverse vs) to ls rest h)) (sym is)
-          (subst (λ b. EI (instr.Invokespecial id) (cond b (Rattle.kilim_run_machine.specs.Effect.Asks id (r ∷ reverse vs) to ls rest h) (Rattle.kilim_run_machine.specs.Effect.Calls id (r ∷ reverse vs) to ls rest h))) (sym own) (special_edge, call)))
+          (subst (λ b. EI (instr.Invokespecial id) (cond b (Rattle.kilim_run_machine.specs.Effect.Asks id (r ∷ reverse vs) to ls rest h) (Rattle.kilim_run_machine.specs.Effect.Calls id (r ∷ reverse vs) to ls rest h))) (sym own) (special_edge, refl, call)))
         where
           itself : special p m named id ≡ id
           itself = ap (λ b. cond (b || named.owner.0 == m.owner.0) id (Rattle.kilim_run_machine.specs.Does.above_of p named id (Rattle.kilim_run_machine.specs.Does.superclass_of (class_at p m.owner)))) con
@@ -385,9 +379,9 @@ module _ (p : Program) (k : ProgramKeeps p) (m : Method) (pl to : ℕ) (f f1 : T
           same : object_sort p (class_type built.2.made.0) ≡ object_sort p (class_type named.owner.0)
           same = same_sort (λ b q. true≢false (sym b ∙ own))
 
-          call : CallHolds p m f1 g1 h id (r ∷ reverse vs) ls rest below
-          call = call_holds p m f g at h ls st below s.0 (all_passed named g f.stack) (r ∷ reverse vs) named (fits same) (free p k m pl to f f1 g g1 at h ls st below after (instr.Invokespecial id) s special_edge named (k.sized id named is) (special_deed named is)) (shared p k m pl to f f1 g g1 at h ls st below after (instr.Invokespecial id) s special_edge named (k.sized id named is) (special_deed named is)) (cuttable p k m pl to f f1 g g1 at h ls st below after (instr.Invokespecial id) s special_edge named (k.sized id named is) (special_deed named is)) (k.sized id named is) id
-              (record { locals = replaced built.2.old built.2.new f.locals; stack = replaced built.2.old built.2.new built.2.rest; unset = built.2.unset }) (takes_from named) rest f1 g1 is (slots same) built.2.types (graph p k m pl to f f1 g g1 at h ls st below after (instr.Invokespecial id) s special_edge named (k.sized id named is) (special_deed named is))
+          call : CallHolds p m f1 g1 f (raised_deed p g f (instr.Invokespecial id)).graph h id (r ∷ reverse vs) ls rest below
+          call = call_holds p m f g at h ls st below s.0 (all_passed named g f.stack) (r ∷ reverse vs) named (fits same) (free p k m pl to f f1 g g1 at h ls st below after (instr.Invokespecial id) s special_edge named (k.sized id named is) (special_deed named is) (special_raised named is)) (shared p k m pl to f f1 g g1 at h ls st below after (instr.Invokespecial id) s special_edge named (k.sized id named is) (special_deed named is) (special_raised named is)) (cuttable p k m pl to f f1 g g1 at h ls st below after (instr.Invokespecial id) s special_edge named (k.sized id named is) (special_deed named is) (special_raised named is)) (k.sized id named is) id
+              (record { locals = replaced built.2.old built.2.new f.locals; stack = replaced built.2.old built.2.new built.2.rest; unset = built.2.unset }) (takes_from named) rest f1 g1 is (slots same) built.2.types (graph p k m pl to f f1 g g1 at h ls st below after (instr.Invokespecial id) s special_edge named (k.sized id named is) (special_deed named is) (special_raised named is)) (raised_deed p g f (instr.Invokespecial id)).graph (special_raised named is) (λ j. sym (replaced_peek p m built.2.old built.2.new built.2.same f.locals j))
 
       -- a built-in one changes the types alone, and what was known below the object
       module _ (here : named.built_in ≡ true) (empty : named.params ≡ []) where
@@ -398,16 +392,16 @@ module _ (p : Program) (k : ProgramKeeps p) (m : Method) (pl to : ℕ) (f f1 : T
         f_is = built.2.types ∙ ap (λ z. record { locals = replaced built.2.old built.2.new f.locals; stack = result_types z ++ replaced built.2.old built.2.new built.2.rest; unset = built.2.unset }) none
 
         g_is : g1 ≡ popped (takes_from named) (after_call p (all_passed named g f.stack) g)
-        g_is = graph p k m pl to f f1 g g1 at h ls st below after (instr.Invokespecial id) s special_edge named (k.sized id named is) (special_deed named is) ∙ ap (λ z. given_result p z (popped (takes_from named) (after_call p (all_passed named g f.stack) g))) none
+        g_is = graph p k m pl to f f1 g g1 at h ls st below after (instr.Invokespecial id) s special_edge named (k.sized id named is) (special_deed named is) (special_raised named is) ∙ ap (λ z. given_result p z (popped (takes_from named) (after_call p (all_passed named g f.stack) g))) none
 
         one : all_passed named g f.stack ≡ receiver named (slot g.stack 0) (peek f.stack 0) ∷ []
-        one = args_are p k m pl to f f1 g g1 at h ls st below after (instr.Invokespecial id) s special_edge named (k.sized id named is) (special_deed named is) built.1 vs r rest e size
+        one = args_are p k m pl to f f1 g g1 at h ls st below after (instr.Invokespecial id) s special_edge named (k.sized id named is) (special_deed named is) (special_raised named is) built.1 vs r rest e size
             ∙ ap (λ ps. receiver named (slot g.stack (length ps)) (peek f.stack (length ps)) ∷ parameters ps named.qualifiers (reverse (take (length ps) g.stack)) (reverse (take (length ps) f.stack))) empty
 
         by : (b : Bool) → is_tree_kind (kind_of p (class_type named.owner.0)) ≡ b → Left p m f1 g1 h ls rest below
         by true tree =
             let same = same_sort (λ b q. true≢false (sym tree ∙ ap is_tree_kind q)) in
-            let hd = caller_holds p m f g at h ls st below s.0 (all_passed named g f.stack) (r ∷ reverse vs) named (fits same) (free p k m pl to f f1 g g1 at h ls st below after (instr.Invokespecial id) s special_edge named (k.sized id named is) (special_deed named is)) (shared p k m pl to f f1 g g1 at h ls st below after (instr.Invokespecial id) s special_edge named (k.sized id named is) (special_deed named is)) (cuttable p k m pl to f f1 g g1 at h ls st below after (instr.Invokespecial id) s special_edge named (k.sized id named is) (special_deed named is)) (takes_from named) rest rest_here in (
+            let hd = caller_holds p m f g at h ls st below s.0 (all_passed named g f.stack) (r ∷ reverse vs) named (fits same) (free p k m pl to f f1 g g1 at h ls st below after (instr.Invokespecial id) s special_edge named (k.sized id named is) (special_deed named is) (special_raised named is)) (shared p k m pl to f f1 g g1 at h ls st below after (instr.Invokespecial id) s special_edge named (k.sized id named is) (special_deed named is) (special_raised named is)) (cuttable p k m pl to f f1 g g1 at h ls st below after (instr.Invokespecial id) s special_edge named (k.sized id named is) (special_deed named is) (special_raised named is)) (takes_from named) rest rest_here in (
               at,
               subst (λ z. Holds p m z g1 at h ls rest below) (sym f_is)
                   (subst (λ z. Holds p m (record { locals = replaced built.2.old built.2.new f.locals; stack = replaced built.2.old built.2.new built.2.rest; unset = built.2.unset }) z at h ls rest below) (sym g_is)
@@ -465,6 +459,10 @@ module _ (p : Program) (k : ProgramKeeps p) (m : Method) (pl to : ℕ) (f f1 : T
       unfolding deed
       static_deed = ap (calls p g f.stack) is
 
+      static_raised : (raised_deed p g f (instr.Invokestatic id)).graph ≡ handler_graph (after_call p (all_passed named g f.stack) g)
+      unfolding raised_deed
+      static_raised = ap (λ z. (call_raises p g f.stack z).graph) is
+
       static_edge : Among (edges (instr.Invokestatic id) to) to
       unfolding ends_path jump_targets
       static_edge = inl refl
@@ -499,12 +497,12 @@ module _ (p : Program) (k : ProgramKeeps p) (m : Method) (pl to : ℕ) (f f1 : T
       declared_of = ap (λ b. cond b (declared_parameters named.params named.qualifiers) (record { ty = class_type named.owner.0; qualifier = named.receiver } ∷ declared_parameters named.params named.qualifiers)) is_static
 
       static_left : (vs rest : List Value) → st ≡ vs ++ rest → length vs ≡ length named.params → EI (instr.Invokestatic id) (calls_method (Some named) id (reverse vs) to ls rest h)
-      static_left vs rest e size = call_left p k m pl to f f1 g g1 at h ls st below after (instr.Invokestatic id) s static_edge named (k.sized id named is) static_deed named id is (reverse vs)
+      static_left vs rest e size = call_left p k m pl to f f1 g g1 at h ls st below after (instr.Invokestatic id) s static_edge named (k.sized id named is) static_deed static_raised named id is (reverse vs)
           (subst (λ z. ArgsFit p h (named_by g at) (length g.nodes) z (reverse vs) (parameters_of named)) (sym params_of)
           (subst (ArgsFit p h (named_by g at) (length g.nodes) (parameters named.params named.qualifiers (reverse (take (length named.params) g.stack)) (reverse (take (length named.params) f.stack))) (reverse vs)) (sym declared_of)
           (params_fit p m h (named_by g at) (length g.nodes) k.flow named [] f.stack g.stack vs rest (ap (λ z. all_meet p z f.stack) (append_nil (arguments named)) ∙ static_taken.0) on_stack size (λ j n x. lives j n x) (k.sized id named is)
           (ap (λ z. list_any (λ (a : Passed). not a.is_begun && mixes p a.ty (vtype.Object a.into)) z) (sym params_of)
-          ∙ Rattle.kilim_isolation_laws.proofs.graph_rows.Invoke.mixed p k m pl to f f1 g g1 at h ls st below after (instr.Invokestatic id) s static_edge named (k.sized id named is) static_deed))))
+          ∙ Rattle.kilim_isolation_laws.proofs.graph_rows.Invoke.mixed p k m pl to f f1 g g1 at h ls st below after (instr.Invokestatic id) s static_edge named (k.sized id named is) static_deed static_raised))))
           (k.sized id named is) refl rest
           (subst (λ z. AreSlots p m h (named_by g at) (length g.nodes) (drop (takes_from named) f.stack) (drop (takes_from named) g.stack) z) (drop_front vs rest (takes_from named) (size ∙ sym (length-reverse named.params) ∙ sym (Rattle.kilim_isolation_laws.proofs.graph_rows.Invoke.length_map (reverse named.params)) ∙ sym (ap length (arguments_are p m h (named_by g at) (length g.nodes) named)) ∙ count_is))
           (dropped p m h (named_by g at) (length g.nodes) (takes_from named) f.stack g.stack (vs ++ rest) on_stack))

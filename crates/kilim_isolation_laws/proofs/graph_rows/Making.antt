@@ -100,7 +100,7 @@ module _ (p : Program) (h : Objects) (n : ℕ) (ob : Object) (free : get h n ≡
 
   module _ (m : Method) (f : Types) (g : Graph) (at : ℕ → Option ℕ) (ls st : List Value) (below : List Waiting) (hd : Stands p m f g at h ls st below) (of : ObjectFits p (insert h n ob) ob) where
     -- before the slot names it
-    grown : Holds p m f g at (insert h n ob) ls st below
+    pub grown : Holds p m f g at (insert h n ob) ls st below
     grown = record {
       heap = new_fits hd.holds.heap of;
       forest = new_forest (trees p h) (trees p (insert h n ob)) hd.holds.forest n same_has has_not same_to;

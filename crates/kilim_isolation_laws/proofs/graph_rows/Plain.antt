@@ -23,7 +23,7 @@ use Rattle.kilim_isolation_laws.specs.forest.Relation.{Named}
 use Rattle.kilim_isolation_graph.specs.declared.graph.Graph.{Graph}
 use Rattle.kilim_isolation_rules.specs.declared.deed.Deed.{Deed}
 use Rattle.kilim_isolation_rules.specs.Marks.{plain}
-use Rattle.kilim_isolation_rules.specs.Rules.{by_types, deed, moves}
+use Rattle.kilim_isolation_rules.specs.Rules.{by_types, deed, moves, raised_deed}
 use Rattle.kilim_isolation_laws.specs.graph_rows.Holds.{sort, Fits, unnamed, AreSlots, SlotsFit, named_by, Waiting, Holds, Stands}
 use Rattle.kilim_isolation_laws.specs.graph_rows.Outcome.{Left, EffectHolds}
 use Rattle.kilim_isolation_laws.proofs.graph_rows.Passed.{takes_passed, moves_passed}
@@ -83,7 +83,7 @@ module _ (p : Program) (m : Method) (pl to : ℕ) (f f1 : Types) (g g1 : Graph) 
   IsStep i = Stands p m f g at h ls st below × (type_step p m pl i f ≡ Ok f1) × (moves p m g f i after ≡ Ok g1)
 
   abbrev pub E : Instr → Effect → Type 0
-  E i e = EffectHolds p m (edges i to) f1 g1 at below h g.nodes e
+  E i e = EffectHolds p m (edges i to) f1 g1 at below h g.nodes to f (raised_deed p g f i).graph e
 
   abbrev pub IsPlain : Instr → List Operand → List VType → List Further → Type 0
   IsPlain i takes gives also = (row p m i ≡ Takes takes gives also) × (deed p m g f i ≡ plain (by_types g f (row p m i)))

@@ -38,6 +38,7 @@ use Rattle.kilim_isolation.specs.Walks.{entry_graph, machine_of}
 use Rattle.kilim_type_sound.specs.Fits as fits
 use Rattle.kilim_type_sound.specs.Fits.{AValue, AreThere, Awaited, BelowFit, Classes, FrameFits, Holds, Nothing, StackFits, Wanted, has_type, have_types, result_awaited, result_of}
 use Rattle.kilim_isolation_laws.specs.reached_objects.live.Laws.{IsAcceptedBy, IsThere as LiveIsThere}
+use Rattle.kilim_isolation_laws.proofs.reached_objects.live.NoHandlers.{handlers_flow}
 use Rattle.kilim_isolation_laws.proofs.reached_objects.live.Gone.{result_stays}
 use Rattle.kilim_isolation_laws.proofs.reached_objects.live.Live.{live_is_there}
 use Rattle.kilim_isolation_laws.proofs.reached_objects.live.Locals.{result_locals}
@@ -94,6 +95,7 @@ module _ (p : Program) (wanted : Wanted) (live : Liveness) (of : Classes) (h : O
     is = is;
     coded = coded;
     well = typed_by_place p checked.keeps checked.well id m is coded;
+    handlers = handlers_flow p checked.keeps id m is (typing_at p id);
     goes = every_method_goes (typed p) checked.keeps checked.accepted id m is coded;
   }
 

@@ -1,5 +1,8 @@
 pub mod Places
 pub mod Typing
+pub mod Behind
+pub mod FromSteps
+pub mod Raising
 pub mod Given
 pub mod Thread
 pub mod Beginning

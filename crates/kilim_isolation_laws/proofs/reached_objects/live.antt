@@ -4,4 +4,5 @@ pub mod Locals
 pub mod Along
 pub mod Entry
 pub mod Places
+pub mod NoHandlers
 pub mod Live

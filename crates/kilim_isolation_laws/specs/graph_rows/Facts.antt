@@ -41,7 +41,7 @@ use Rattle.kilim_isolation_laws.specs.forest.Canonical.{node_at}
 use Rattle.kilim_isolation_graph.specs.declared.graph.Graph.{Graph}
 use Rattle.kilim_program.specs.Same.{is_constructor}
 use Rattle.kilim_program.specs.Fits.{fits_type}
-use Rattle.kilim_isolation_rules.specs.Rules.{moves}
+use Rattle.kilim_isolation_rules.specs.Rules.{moves, raised_deed}
 use Rattle.kilim_isolation_graph.specs.Entry.{quality}
 use Rattle.kilim_isolation_graph.specs.Graphs.{changed, node_of, added}
 use Rattle.kilim_isolation_rules.specs.Marks.{root_node}
@@ -153,7 +153,7 @@ pub record IsTaken (p : Program) (h h' : Objects) (n dims : ℕ) (stuff : Stuff)
 abbrev pub RowsHold : Type 0
 RowsHold = (p : Program) → ProgramKeeps p → (m : Method) (pl to : ℕ) (f f1 : Types) (g g1 : Graph) (at : ℕ → Option ℕ) (h : Objects) (ls st : List Value) (below : List Waiting) (after : Option Types) (i : Instr) →
     Stands p m f g at h ls st below → IsVerified p h f.stack st i → type_step p m pl i f ≡ Ok f1 → moves p m g f i after ≡ Ok g1 → fetched m.code m.code_length pl ≡ Some (i, to) →
-    EffectHolds p m (edges i to) f1 g1 at below h g.nodes (does p m i to ls st h)
+    EffectHolds p m (edges i to) f1 g1 at below h g.nodes to f (raised_deed p g f i).graph (does p m i to ls st h)
 
 -- a put or a start
 abbrev pub GivesKeep : Type 0

@@ -13,24 +13,25 @@ use Rattle.kilim_program.specs.Program.{Program}
 use Rattle.kilim_run_state.specs.Machine.{Objects}
 use Rattle.kilim_program.specs.Names.{method_at}
 use Rattle.kilim_run_machine.specs.Effect.{Effect, Goes, Makes, Opens, Calls, Asks, Returns, Raises, Throws, Ends, Stuck}
-use Rattle.kilim_type_spec.specs.Step.{Types, result_types}
+use Rattle.kilim_type_spec.specs.Step.{Types, result_types, peek}
 use Rattle.kilim_type_spec.specs.Typed.{entry, Among}
 use Rattle.kilim_isolation_laws.specs.forest.Relation.{Frames, Named, Names, Node, Root, is_gone}
 use Rattle.kilim_program.specs.Kinds.{kind_of}
 use Rattle.kilim_isolation_graph.specs.declared.graph.Graph.{Graph}
-use Rattle.kilim_isolation_rules.specs.Calls.{after_call, given_result, is_not_free, quality_in}
+use Rattle.kilim_isolation_rules.specs.Calls.{after_call, given_result, is_not_free, quality_in, handler_graph}
 use Rattle.kilim_isolation_rules.specs.declared.deed.Passed.{Passed}
 use Rattle.kilim_isolation_graph.specs.declared.entry.Parameter.{Parameter}
 use Rattle.kilim_isolation_graph.specs.Graphs.{node_of, popped}
 use Rattle.kilim_isolation_graph.specs.Entry.{entry_nodes, parameters_of, quality}
-use Rattle.kilim_isolation_laws.specs.graph_rows.Holds.{AreSlots, Holds, IsPlace, Stands, WaitFits, Waiting, trees, waiting_named, named_by, SlotFits, type_sort, refers, Fits}
+use Rattle.kilim_isolation_laws.specs.graph_rows.Holds.{sort, AreSlots, Holds, IsPlace, Stands, WaitFits, Waiting, trees, waiting_named, named_by, SlotFits, type_sort, refers, Fits}
 
 -- the frame holds, whatever its nodes stand for
 abbrev pub Left : Program → Method → Types → Graph → Objects → List Value → List Value → List Waiting → Type 0
 Left p m f g h locals stack below = (at : ℕ → Option ℕ) × Holds p m f g at h locals stack below
 
 -- What is true once the caller's arguments are off its stack, and the method that runs has begun.
-pub record CallHolds (p : Program) (m : Method) (f : Types) (g : Graph) (h : Objects) (id : MethodId) (args locals stack : List Value) (below : List Waiting) : Type 0 where
+-- Along a handler edge of the call the caller's graph is that right after the arguments, and its locals have the sorts that they had before.
+pub record CallHolds (p : Program) (m : Method) (f : Types) (g : Graph) (f0 : Types) (raised : Graph) (h : Objects) (id : MethodId) (args locals stack : List Value) (below : List Waiting) : Type 0 where
   pub callee : Method
   pub is : method_at p id ≡ Some callee
   pub caller : Waiting
@@ -39,6 +40,8 @@ pub record CallHolds (p : Program) (m : Method) (f : Types) (g : Graph) (h : Obj
   pub stack_is : caller.stack ≡ stack
   pub types : f ≡ record caller.types { stack = result_types callee.result ++ caller.types.stack }
   pub graph : g ≡ given_result p callee.result caller.graph
+  pub raised_is : raised ≡ handler_graph caller.graph
+  pub sorts : (k : ℕ) → sort p m (peek caller.types.locals k) ≡ sort p m (peek f0.locals k)
   pub at : ℕ → Option ℕ
   pub entered : Holds p callee (entry callee) (entry_nodes p callee) at h (Rattle.kilim_run_machine.specs.Moves.entered p id args).locals [] (caller ∷ below)
 
@@ -57,7 +60,7 @@ ArgsFit p h u count args vs qs = ⊥
 
 -- A built-in method was asked, with these arguments: the caller before the call, and with its graph right after the arguments. What
 -- the method gives comes on top of the stack; a tree that it is given leaves the heap.
-pub record NativeHolds (p : Program) (m : Method) (f : Types) (g : Graph) (h : Objects) (id : MethodId) (args locals stack : List Value) (below : List Waiting) : Type 0 where
+pub record NativeHolds (p : Program) (m : Method) (f : Types) (g : Graph) (f0 : Types) (raised : Graph) (h : Objects) (id : MethodId) (args locals stack : List Value) (below : List Waiting) : Type 0 where
   pub callee : Method
   pub is : method_at p id ≡ Some callee
   pub types : Types
@@ -72,17 +75,19 @@ pub record NativeHolds (p : Program) (m : Method) (f : Types) (g : Graph) (h : O
   pub rest : AreSlots p m h (named_by graph at) (length graph.nodes) (drop takes types.stack) (drop takes graph.stack) stack
   pub after : f ≡ record types { stack = result_types callee.result ++ drop takes types.stack }
   pub left : g ≡ given_result p callee.result (popped takes (after_call p passed graph))
+  pub raised_is : raised ≡ handler_graph (popped takes (after_call p passed graph))
+  pub before : f0 ≡ types
   pub waits : WaitFits p h (record { method = m; types = record types { stack = drop takes types.stack }; graph = popped takes (after_call p passed graph); at = at; locals = locals; stack = stack })
   pub frames : Frames IsPlace (trees p h) (named_by (after_call p passed graph) at ∷ map waiting_named below)
 
-abbrev pub EffectHolds : Program → Method → List ℕ → Types → Graph → (ℕ → Option ℕ) → List Waiting → Objects → List Node → Effect → Type 0
-EffectHolds p m next f g at below h0 nodes (Goes place locals stack h) = Among next place × Left p m f g h locals stack below
-EffectHolds p m next f g at below h0 nodes (Makes object place locals stack h) = Among next place × ((n : ℕ) → get h n ≡ None → Left p m f g (insert h n object) locals (Ref n ∷ stack) below)
-EffectHolds p m next f g at below h0 nodes (Opens place locals stack h) = Among next place × ((box : BoxName) → Left p m f g h locals (Box box ∷ stack) below)
-EffectHolds p m next f g at below h0 nodes (Calls id args place locals stack h) = Among next place × CallHolds p m f g h id args locals stack below
-EffectHolds p m next f g at below h0 nodes (Asks id args place locals stack h) = Among next place × NativeHolds p m f g h id args locals stack below
-EffectHolds p m next f g at below h0 nodes (Returns value h) = ReturnHolds p m g at h m.result value × (h ≡ h0) × (g.nodes ≡ nodes)
-EffectHolds p m next f g at below h0 nodes (Raises cause) = Unit {0}
-EffectHolds p m next f g at below h0 nodes (Throws object class cause) = Unit {0}
-EffectHolds p m next f g at below h0 nodes (Ends cause) = Unit {0}
-EffectHolds p m next f g at below h0 nodes Stuck = Unit {0}
+abbrev pub EffectHolds : Program → Method → List ℕ → Types → Graph → (ℕ → Option ℕ) → List Waiting → Objects → List Node → (to : ℕ) (f0 : Types) (raised : Graph) → Effect → Type 0
+EffectHolds p m next f g at below h0 nodes to f0 raised (Goes place locals stack h) = Among next place × Left p m f g h locals stack below
+EffectHolds p m next f g at below h0 nodes to f0 raised (Makes object place locals stack h) = Among next place × ((n : ℕ) → get h n ≡ None → Left p m f g (insert h n object) locals (Ref n ∷ stack) below)
+EffectHolds p m next f g at below h0 nodes to f0 raised (Opens place locals stack h) = Among next place × ((box : BoxName) → Left p m f g h locals (Box box ∷ stack) below)
+EffectHolds p m next f g at below h0 nodes to f0 raised (Calls id args place locals stack h) = Among next place × (place ≡ to) × CallHolds p m f g f0 raised h id args locals stack below
+EffectHolds p m next f g at below h0 nodes to f0 raised (Asks id args place locals stack h) = Among next place × (place ≡ to) × NativeHolds p m f g f0 raised h id args locals stack below
+EffectHolds p m next f g at below h0 nodes to f0 raised (Returns value h) = ReturnHolds p m g at h m.result value × (h ≡ h0) × (g.nodes ≡ nodes)
+EffectHolds p m next f g at below h0 nodes to f0 raised (Raises cause) = Unit {0}
+EffectHolds p m next f g at below h0 nodes to f0 raised (Throws object class cause) = Unit {0}
+EffectHolds p m next f g at below h0 nodes to f0 raised (Ends cause) = Unit {0}
+EffectHolds p m next f g at below h0 nodes to f0 raised Stuck = Unit {0}

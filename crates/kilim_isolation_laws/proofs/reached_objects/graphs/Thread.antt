@@ -1,20 +1,24 @@
 -- One move of a thread.
-use Rattle.std.proofs.Common.{◌≡◌, ℕ, suc, Bool, true, false, not, cond, List, [], ◌∷◌, ◌++◌, map, length, Option, Some, None, Ok, refl, sym, ap, subst, ◌∙◌, inl, inr}
+use Rattle.std.proofs.Common.{◌≡◌, ℕ, zero, suc, Bool, true, false, not, cond, List, [], ◌∷◌, ◌++◌, map, length, Option, Some, None, Ok, refl, sym, ap, subst, ◌∙◌, true≢false}
 use Rattle.std.specs.Prelude.{drop, nat_lt}
 use Rattle.std.specs.FinMap.{insert}
 use Rattle.kilim_program.specs.declared.class.Method.{Method}
 use Rattle.kilim_program.specs.declared.instr.Instr.{Instr}
+use Rattle.kilim_program.specs.declared.instr.Instr.TheVariants.{Athrow}
 use Rattle.kilim_program.specs.declared.names.MethodId.{MethodId}
+use Rattle.kilim_program.specs.declared.ty.Base.{Base}
+use Rattle.kilim_program.specs.declared.ty.Base.TheVariants as base
 use Rattle.kilim_program.specs.declared.ty.Ty.{Ty}
 use Rattle.kilim_program.specs.declared.value.Value.{Value}
 use Rattle.kilim_program.specs.declared.value.Value.TheVariants.{Box, Ref}
 use Rattle.kilim_program.specs.Program.{Program}
 use Rattle.kilim_program.specs.Lengths.{fetched}
 use Rattle.kilim_program.specs.Names.{method_at}
+use Rattle.kilim_run_machine.specs.Does.{does, throws_object}
 use Rattle.kilim_run_machine.specs.Effect.{Effect, Goes, Makes, Opens, Calls, Asks, Returns, Raises, Throws, Ends, Stuck}
-use Rattle.kilim_run_state.specs.Machine.{Activation, Objects}
+use Rattle.kilim_run_state.specs.Machine.{Activation, Objects, stands_behind}
 use Rattle.kilim_run_machine.specs.Moves.{Move, effect_found, effect_in, entered, frame_limit, goes_on, move_by, moves, push_result, returned}
-use Rattle.kilim_type_spec.specs.Step.{Types, result_types, type_step, vtype}
+use Rattle.kilim_type_spec.specs.Step.{Types, peek, result_types, type_step, vtype}
 use Rattle.kilim_type_spec.specs.Typed.{Among, declared, edges, entry, has_code}
 use Rattle.kilim_isolation_laws.specs.forest.Canonical.{node_at}
 use Rattle.kilim_isolation_laws.specs.forest.Relation.{Names, Root}
@@ -24,13 +28,13 @@ use Rattle.kilim_isolation_graph.specs.declared.graph.Graph.{Graph}
 use Rattle.kilim_isolation_graph.specs.Canonical.{canonical_at}
 use Rattle.kilim_isolation_graph.specs.Entry.{entry_nodes, parameters_of}
 use Rattle.kilim_isolation_graph.specs.Graphs.{popped}
-use Rattle.kilim_isolation_rules.specs.Calls.{after_call, arguments, given_result}
+use Rattle.kilim_isolation_rules.specs.Calls.{after_call, arguments, given_result, handler_graph}
 use Rattle.kilim_isolation_rules.specs.Calls as calls
 use Rattle.kilim_isolation_rules.specs.Marks.{flow_mixes, given, stack_lives}
-use Rattle.kilim_isolation_rules.specs.Rules.{any_flow_mixes, deed, left_by}
+use Rattle.kilim_isolation_rules.specs.Rules.{any_flow_mixes, deed, left_by, raised_deed}
 use Rattle.kilim_isolation_rules.specs.Steps.{Free}
-use Rattle.kilim_isolation.specs.Walks.{declared_to, entry_graph, entry_mixes, exits_to, machine_of}
-use Rattle.kilim_isolation_laws.specs.graph_rows.Holds.{Holds, KindsFlow, Stands, Waiting, named_by, refers, trees, waiting_named}
+use Rattle.kilim_isolation.specs.Walks.{declared_to, entry_graph, entry_mixes, exits_by, is_throw, machine_of}
+use Rattle.kilim_isolation_laws.specs.graph_rows.Holds.{sort, Holds, KindsFlow, Stands, Waiting, named_by, refers, trees, waiting_named}
 use Rattle.kilim_isolation_laws.specs.graph_rows.Outcome.{EffectHolds, Left, NativeHolds, ReturnHolds}
 use Rattle.kilim_isolation_laws.proofs.graph_rows.Fields.{slot_sort}
 use Rattle.kilim_isolation_laws.proofs.graph_rows.Giving.{given_left}
@@ -39,29 +43,12 @@ use Rattle.kilim_isolation_laws.proofs.graph_rows.Results.{IsNews, back, none_be
 use Rattle.kilim_isolation_laws.proofs.graph_rows.Settle.{not_true}
 use Rattle.kilim_isolation_laws.proofs.graph_rows.Table.{rows_hold}
 use Rattle.kilim_isolation_laws.proofs.graph_rows.Taking.{taken_left}
-use Rattle.kilim_isolation_laws.specs.reached_objects.graphs.Threads.{AllWaitFor, AskFits, Becomes, EndFits, FramesFit, Gives, IsSound, Listed, MoveFits, MovesKeep, Passes, ThreadFits, TopIsVerified, Typings, Waits, keepers}
+use Rattle.kilim_isolation_laws.proofs.graph_rows.Words.{object_h}
+use Rattle.kilim_isolation_laws.specs.reached_objects.graphs.Threads.{AllWaitFor, AskFits, Becomes, EndFits, FramesFit, Gives, Handled, IsSound, Listed, MoveFits, MovesKeep, Passes, ThreadFits, TopIsVerified, Typings, Waits, keepers}
+use Rattle.kilim_isolation_laws.proofs.reached_objects.live.Along.{among_by, some_by}
 use Rattle.kilim_isolation_laws.proofs.reached_objects.graphs.Given.{gives_name}
 use Rattle.kilim_isolation_laws.proofs.reached_objects.graphs.Places.{flow_passed, settled}
-
--- ---- exits
-
-has_mapped : (es : List ℕ) (q : ℕ) → Among es q → Has (map (λ (x : ℕ). Some x) es) (Some q)
-has_mapped [] q a = absurd a
-has_mapped (e ∷ es) q (inl is) = (0, ap (λ z. Some (Some z)) is)
-has_mapped (e ∷ es) q (inr a) =
-    let w = has_mapped es q a in
-    (suc w.0, w.1)
-
-has_exit : (es : List ℕ) (q : ℕ) → Among es q → Has (exits_to es) (Some q)
-has_exit [] q a = absurd a
-has_exit (e ∷ es) q (inl is) = (0, ap (λ z. Some (Some z)) is)
-has_exit (e ∷ es) q (inr a) =
-    let w = has_mapped es q a in
-    (suc w.0, w.1)
-
-some_exit : (es : List ℕ) → (to : Option ℕ) × Has (exits_to es) to
-some_exit [] = (None, (0, refl))
-some_exit (e ∷ es) = (Some e, (0, refl))
+use Rattle.kilim_isolation_laws.proofs.reached_objects.graphs.Raising.{unwound_fit}
 
 module _ (p : Program) (typings : Typings) (listed : Listed) (kept : Option ℕ) (s : IsSound p typings listed) where
   abbrev flow : KindsFlow p
@@ -72,14 +59,11 @@ module _ (p : Program) (typings : Typings) (listed : Listed) (kept : Option ℕ)
     abbrev g1 : Graph
     g1 = (deed p m g (typings id pl) i).graph
 
-    passes : (exit : Option ℕ) → Has (exits_to (edges i to)) exit → Passes p m (typings id) (listed id) first pl g i exit
+    passes : (exit : Option ℕ) → Has (exits_by i to) exit → Passes p m (typings id) (listed id) first pl g i exit
     passes exit has = (s.methods id m is coded).passes first begins pl g reaches i to here exit has
 
-    lives : stack_lives (deed p m g (typings id pl) i).graph ≡ true
-    lives =
-        let e = some_exit (edges i to) in
-        let w = moves_passed p m g (typings id pl) i (declared_to m e.0) (deed p m g (typings id pl) i).graph (passes e.0 e.1).passed in
-        w.live
+    lives : (q : ℕ) → Among (edges i to) q → stack_lives (deed p m g (typings id pl) i).graph ≡ true
+    lives q a = (moves_passed p m g (typings id pl) i (declared m q) (deed p m g (typings id pl) i).graph (passes (Some q) (among_by i to q a)).passed).live
 
     becomes : (q : ℕ) → Among (edges i to) q → Becomes p f1 (declared m q) (typings id q)
     becomes q a =
@@ -88,14 +72,14 @@ module _ (p : Program) (typings : Typings) (listed : Listed) (kept : Option ℕ)
 
     no_mix : (q : ℕ) → Among (edges i to) q → (t : Types) → declared m q ≡ Some t → flow_mixes p f1 t ≡ false
     no_mix q a t e =
-        let c = moves_passed p m g (typings id pl) i (declared m q) (deed p m g (typings id pl) i).graph (passes (Some q) (has_exit (edges i to) q a)).passed in
+        let c = moves_passed p m g (typings id pl) i (declared m q) (deed p m g (typings id pl) i).graph (passes (Some q) (among_by i to q a)).passed in
         flow_passed p m pl i (typings id pl) f1 t (ap (any_flow_mixes p (left_by p m i (typings id pl))) (sym e) ∙ c.flow) typed
 
     -- the frame at the next place
     pub arrives : (q : ℕ) → Among (edges i to) q → (h : Objects) (ls st : List Value) (below : List Waiting) (frames : List Activation) → Left p m f1 (deed p m g (typings id pl) i).graph h ls st below → (result : Option Ty) → m.result ≡ result →
         AllWaitFor p typings listed kept frames below result → ThreadFits p typings listed kept h (record { method = id; place = q; locals = ls; stack = st }) frames
     arrives q a h ls st below frames left result gives waits =
-        let w = settled p s.keeps.flow m f1 (deed p m g (typings id pl) i).graph left.0 h ls st below left.1 lives (declared m q) (typings id q) (becomes q a) (no_mix q a) in
+        let w = settled p s.keeps.flow m f1 (deed p m g (typings id pl) i).graph left.0 h ls st below left.1 (lives q a) (declared m q) (typings id q) (becomes q a) (no_mix q a) in
         record {
           below = below;
           result = result;
@@ -108,16 +92,23 @@ module _ (p : Program) (typings : Typings) (listed : Listed) (kept : Option ℕ)
             first = first;
             begins = begins;
             graph = canonical_at (declared m q) (deed p m g (typings id pl) i).graph;
-            reaches = (passes (Some q) (has_exit (edges i to) q a)).arrives q refl;
+            reaches = (passes (Some q) (among_by i to q a)).arrives q refl;
             at = w.0;
             stands = w.1;
           };
         }
 
     -- a frame that waits at the next place
-    pub comes_to_wait : (q : ℕ) → Among (edges i to) q → (w : Waiting) → w.method ≡ m → (gets : Option Ty) → f1 ≡ record w.types { stack = result_types gets ++ w.types.stack } → (deed p m g (typings id pl) i).graph ≡ given_result p gets w.graph →
-        (ls st : List Value) → w.locals ≡ ls → w.stack ≡ st → Waits p typings listed (record { method = id; place = q; locals = ls; stack = st }) w gets m.result
-    comes_to_wait q a w method gets types graph ls st locals stack = record {
+    pub comes_to_wait : (q : ℕ) → Among (edges i to) q → q ≡ to → (w : Waiting) → w.method ≡ m → (gets : Option Ty) → f1 ≡ record w.types { stack = result_types gets ++ w.types.stack } → (deed p m g (typings id pl) i).graph ≡ given_result p gets w.graph →
+        (raised_deed p g (typings id pl) i).graph ≡ handler_graph w.graph → ((k : ℕ) → sort p m (peek w.types.locals k) ≡ sort p m (peek (typings id pl).locals k)) → (ls st : List Value) → w.locals ≡ ls → w.stack ≡ st → Waits p typings listed (record { method = id; place = q; locals = ls; stack = st }) w gets m.result
+    comes_to_wait q a behind w method gets types graph raised sorts ls st locals stack = record {
+      call = (pl, i);
+      stands = ap (λ (z : Method). stands_behind z.code z.code_length q) method ∙ ap (stands_behind m.code m.code_length) behind ∙ (s.methods id m is coded).behind pl to i here;
+      before = typings id pl;
+      sorts = λ k. subst (λ z. sort p z (peek w.types.locals k) ≡ sort p z (peek (typings id pl).locals k)) (sym method) (sorts k);
+      handled = λ hd has covering. subst (λ z. Handled p z (typings id) (listed id) first (typings id pl) (handler_graph w.graph) hd) (sym method)
+          (subst (λ z. Handled p m (typings id) (listed id) first (typings id pl) z hd) raised
+          ((s.methods id m is coded).handled first begins pl g reaches i to here hd (subst (λ (z : Method). Has z.handlers hd) method has) covering));
       is = is ∙ ap Some (sym method);
       coded = ap has_code method ∙ coded;
       result = ap (λ (z : Method). z.result) method;
@@ -126,11 +117,11 @@ module _ (p : Program) (typings : Typings) (listed : Listed) (kept : Option ℕ)
       first = first;
       begins = ap (entry_graph p) method ∙ begins;
       reaches = subst (λ z. Reaches (machine_of p z (listed id) first) q (canonical_at (declared z q) (given_result p gets w.graph))) (sym method)
-          (subst (λ z. Reaches (machine_of p m (listed id) first) q (canonical_at (declared m q) z)) graph ((passes (Some q) (has_exit (edges i to) q a)).arrives q refl));
+          (subst (λ z. Reaches (machine_of p m (listed id) first) q (canonical_at (declared m q) z)) graph ((passes (Some q) (among_by i to q a)).arrives q refl));
       types = subst (λ z. Becomes p (record w.types { stack = result_types gets ++ w.types.stack }) (declared z q) (typings id q)) (sym method)
           (subst (λ z. Becomes p z (declared m q) (typings id q)) types (becomes q a));
       flow = λ d e. ap (λ z. flow_mixes p z d) (sym types) ∙ no_mix q a d (ap (λ z. declared z q) (sym method) ∙ e);
-      live = ap stack_lives (sym graph) ∙ lives;
+      live = ap stack_lives (sym graph) ∙ lives q a;
     }
 
   -- the frame of a method that begins
@@ -240,10 +231,13 @@ module _ (p : Program) (typings : Typings) (listed : Listed) (kept : Option ℕ)
 
     -- ---- a built-in method
 
-    module _ (id : MethodId) (args : List Value) (place : ℕ) (among : Among (edges i to) place) (ls st : List Value) (h' : Objects)
-        (w : NativeHolds p t.top_fits.method flows.0 (deed p t.top_fits.method t.top_fits.graph (typings top.method top.place) i).graph h' id args ls st t.below) where
+    module _ (id : MethodId) (args : List Value) (place : ℕ) (among : Among (edges i to) place) (behind : place ≡ to) (ls st : List Value) (h' : Objects)
+        (w : NativeHolds p t.top_fits.method flows.0 (deed p t.top_fits.method t.top_fits.graph (typings top.method top.place) i).graph (typings top.method top.place) (raised_deed p t.top_fits.graph (typings top.method top.place) i).graph h' id args ls st t.below) where
       abbrev mid : Graph
       mid = popped w.takes (after_call p w.passed w.graph)
+
+      abbrev mid_waiting : Waiting
+      mid_waiting = record { method = t.top_fits.method; types = record w.types { stack = drop w.takes w.types.stack }; graph = popped w.takes (after_call p w.passed w.graph); at = w.at; locals = ls; stack = st }
 
       abbrev mid_types : Types
       mid_types = record w.types { stack = drop w.takes w.types.stack }
@@ -277,6 +271,12 @@ module _ (p : Program) (typings : Typings) (listed : Listed) (kept : Option ℕ)
         callee = w.callee;
         is = w.is;
         done = λ none. goes None none h' st (w.at, waiting);
+        raises = λ c n thrown. unwound_fit p typings listed kept s h' c n thrown (goes_on top place ls st ∷ frames) (mid_waiting ∷ t.below) w.callee.result (
+          t.top_fits.method.result,
+          comes_to_wait top.method t.top_fits.method t.top_fits.is t.top_fits.coded t.top_fits.first t.top_fits.begins top.place t.top_fits.graph t.top_fits.reaches i to here flows.0 flows.1 place among behind mid_waiting refl
+              w.callee.result w.after w.left w.raised_is (λ k. ap (λ (z : Types). sort p t.top_fits.method (peek z.locals k)) (sym w.before)) ls st refl refl,
+          subst (AllWaitFor p typings listed kept frames t.below) (sym t.top_fits.gives) t.waits,
+        ) w.stands.holds.heap w.stands.holds.forest w.frames (w.waits, w.stands.holds.waits);
         answered = λ ty v is fits null. goes (Some ty) is h' (v ∷ st)
             (value_comes p t.top_fits.method (record w.types { stack = drop w.takes w.types.stack }) (popped w.takes (after_call p w.passed w.graph)) w.at h' ls st t.below waiting w.waits.within ty v fits (λ kd. null_news v (null kd)));
         whole = λ o q.
@@ -291,19 +291,19 @@ module _ (p : Program) (typings : Typings) (listed : Listed) (kept : Option ℕ)
             (taken_left p t.top_fits.method (record w.types { stack = drop w.takes w.types.stack }) (popped w.takes (after_call p w.passed w.graph)) w.at h' h'' ls st t.below waiting w.waits.within n dims stuff taken (vtype ty) (slot_sort p t.top_fits.method ty ∙ sort)));
       }
 
-    pub move_fits : (e : Effect) → EffectHolds p t.top_fits.method (edges i to) flows.0 (deed p t.top_fits.method t.top_fits.graph (typings top.method top.place) i).graph t.top_fits.at t.below h t.top_fits.graph.nodes e →
+    pub move_fits : (e : Effect) → EffectHolds p t.top_fits.method (edges i to) flows.0 (deed p t.top_fits.method t.top_fits.graph (typings top.method top.place) i).graph t.top_fits.at t.below h t.top_fits.graph.nodes to (typings top.method top.place) (raised_deed p t.top_fits.graph (typings top.method top.place) i).graph e →
         MoveFits p typings listed kept (move_by p e top frames)
     move_fits (Goes place ls st h') w = λ coded. go place w.0 h' ls st w.1
     move_fits (Makes object place ls st h') w = λ n free. go place w.0 (insert h' n object) ls (Ref n ∷ st) (w.1 n free)
     move_fits (Opens place ls st h') w = λ box. go place w.0 h' ls (Box box ∷ st) (w.1 box)
     move_fits (Calls id args place ls st h') w = cond_fits (nat_lt (length (goes_on top place ls st ∷ frames)) frame_limit) _ _
-        (λ coded. method_begins id w.1.callee w.1.is (coded w.1.callee w.1.is) h' (entered p id args).locals (w.1.caller ∷ t.below) w.1.at (goes_on top place ls st ∷ frames) w.1.entered (
+        (λ coded. method_begins id w.2.callee w.2.is (coded w.2.callee w.2.is) h' (entered p id args).locals (w.2.caller ∷ t.below) w.2.at (goes_on top place ls st ∷ frames) w.2.entered (
           t.top_fits.method.result,
-          comes_to_wait top.method t.top_fits.method t.top_fits.is t.top_fits.coded t.top_fits.first t.top_fits.begins top.place t.top_fits.graph t.top_fits.reaches i to here flows.0 flows.1 place w.0 w.1.caller w.1.method
-              w.1.callee.result w.1.types w.1.graph ls st w.1.locals_are w.1.stack_is,
+          comes_to_wait top.method t.top_fits.method t.top_fits.is t.top_fits.coded t.top_fits.first t.top_fits.begins top.place t.top_fits.graph t.top_fits.reaches i to here flows.0 flows.1 place w.0 w.1 w.2.caller w.2.method
+              w.2.callee.result w.2.types w.2.graph w.2.raised_is w.2.sorts ls st w.2.locals_are w.2.stack_is,
           subst (AllWaitFor p typings listed kept frames t.below) (sym t.top_fits.gives) t.waits,
         )) tt
-    move_fits (Asks id args place ls st h') w = asks id args place w.0 ls st h' w.1
+    move_fits (Asks id args place ls st h') w = asks id args place w.0 w.1 ls st h' w.2
     move_fits (Returns value h') w = goes_back value h' w.1 w.2 w.0 frames t.below t.top_fits.stands t.waits
     move_fits (Raises cause) w = tt
     move_fits (Throws object class cause) w = tt
@@ -311,15 +311,30 @@ module _ (p : Program) (typings : Typings) (listed : Listed) (kept : Option ℕ)
     move_fits Stuck w = tt
 
 module _ (p : Program) (typings : Typings) (listed : Listed) (kept : Option ℕ) (s : IsSound p typings listed) (top : Activation) (frames : List Activation) (h : Objects) (v : TopIsVerified p typings top h) (t : ThreadFits p typings listed kept h top frames) where
+  throws_fits : (n dims : ℕ) (b : Base) → MoveFits p typings listed kept (move_by p (throws_object p n dims b) top frames)
+  throws_fits n zero (base.Class c) = tt
+  throws_fits n zero b = tt
+  throws_fits n (suc d) b = tt
+
+  -- what is thrown changes neither frames nor heap
+  thrown_fits : (i : Instr) (to : ℕ) → is_throw i ≡ true → MoveFits p typings listed kept (move_by p (does p t.top_fits.method i to top.locals top.stack h) top frames)
+  unfolding does
+  thrown_fits Athrow to e = object_h (λ z. MoveFits p typings listed kept (move_by p z top frames)) tt (λ c. tt) (λ c. tt) top.stack h _ (λ n object rest x y. throws_fits n object.class.dims object.class.base)
+  thrown_fits i to e = absurd (true≢false (sym e))
+
   found_fits : (x : Option (Instr × ℕ)) → fetched t.top_fits.method.code t.top_fits.method.code_length top.place ≡ x → MoveFits p typings listed kept (move_by p (effect_found p t.top_fits.method top h x) top frames)
   found_fits None e = tt
-  found_fits (Some found) e =
-      let exit = some_exit (edges found.0 found.1) in
-      let passed = ((s.methods top.method t.top_fits.method t.top_fits.is t.top_fits.coded).passes t.top_fits.first t.top_fits.begins top.place t.top_fits.graph t.top_fits.reaches found.0 found.1 e exit.0 exit.1).passed in
-      let flow = flows p typings listed kept s top frames h t found.0 found.1 e in
-      move_fits p typings listed kept s top frames h t found.0 found.1 e _
-      (rows_hold p s.keeps t.top_fits.method top.place found.1 (typings top.method top.place) flow.0 t.top_fits.graph (deed p t.top_fits.method t.top_fits.graph (typings top.method top.place) found.0).graph t.top_fits.at h top.locals top.stack
-      t.below (declared_to t.top_fits.method exit.0) found.0 t.top_fits.stands (v t.top_fits.method found.0 found.1 t.top_fits.is e) flow.1 passed e)
+  found_fits (Some found) e = by (is_throw found.0) refl
+    where
+      by : (b : Bool) → is_throw found.0 ≡ b → MoveFits p typings listed kept (move_by p (effect_found p t.top_fits.method top h (Some found)) top frames)
+      by true throws = thrown_fits found.0 found.1 throws
+      by false goes =
+          let out = some_by found.0 found.1 goes in
+          let passed = ((s.methods top.method t.top_fits.method t.top_fits.is t.top_fits.coded).passes t.top_fits.first t.top_fits.begins top.place t.top_fits.graph t.top_fits.reaches found.0 found.1 e out.0 out.1).passed in
+          let flow = flows p typings listed kept s top frames h t found.0 found.1 e in
+          move_fits p typings listed kept s top frames h t found.0 found.1 e _
+          (rows_hold p s.keeps t.top_fits.method top.place found.1 (typings top.method top.place) flow.0 t.top_fits.graph (deed p t.top_fits.method t.top_fits.graph (typings top.method top.place) found.0).graph t.top_fits.at h top.locals top.stack
+          t.below (declared_to t.top_fits.method out.0) found.0 t.top_fits.stands (v t.top_fits.method found.0 found.1 t.top_fits.is e) flow.1 passed e)
 
   pub move_keeps : MoveFits p typings listed kept (moves p top frames h)
   unfolding moves

@@ -23,10 +23,10 @@ use Rattle.kilim_isolation_graph.specs.declared.node.Standing.TheVariants.{Root,
 use Rattle.kilim_isolation_graph.specs.Graphs.{node_of, popped, slot}
 use Rattle.kilim_isolation_graph.specs.Nodes.{is_gone, is_root, is_safe, listed, new_region, node_at}
 use Rattle.kilim_isolation_rules.specs.declared.deed.Passed.{Passed}
-use Rattle.kilim_isolation_rules.specs.Calls.{after_argument, after_arguments, after_call, all_passed, arguments, calls, given_result, takes_from}
+use Rattle.kilim_isolation_rules.specs.Calls.{after_argument, after_arguments, after_call, all_passed, arguments, calls, given_result, takes_from, call_raises}
 use Rattle.kilim_isolation_rules.specs.Fields.{child_by, cut, element_kind, got, got_safe, gets_field, is_child, joined as joined_graph, known_child, puts_field, read_from, reads, stored, stores, without_child}
 use Rattle.kilim_isolation_rules.specs.Marks.{given}
-use Rattle.kilim_isolation_rules.specs.Rules.{by_types, deed}
+use Rattle.kilim_isolation_rules.specs.Rules.{by_types, deed, raised_deed}
 use Rattle.kilim_isolation_rules.specs.Steps.{Argument, Cuttable, Free, cut_node, gone_node, is_left, is_part, is_that, join_node, no_parent}
 use Rattle.kilim_isolation_laws.specs.forest.Steps.{pick}
 use Rattle.kilim_isolation_laws.proofs.forest.Store.{both_ways, is_same}
@@ -267,3 +267,16 @@ deed_stays p m g f (Invokestatic id) held free = calls_stay p g f.stack (method_
 deed_stays p m g f Areturn held free = same g.nodes
 deed_stays p m g f (Checkcast ty) held free = same g.nodes
 deed_stays p m g f i held free = by_types_stays g f (row p m i)
+
+-- ---- where an instruction raises
+
+call_raises_stays : (p : Program) (g : Graph) (ts : List VType) (o : Option Method) → Stays g.nodes (call_raises p g ts o).graph.nodes
+call_raises_stays p g ts None = same g.nodes
+call_raises_stays p g ts (Some callee) = call_stays p (all_passed callee g ts) g
+
+pub raised_stays : (p : Program) (g : Graph) (f : Types) (i : Instr) → Stays g.nodes (raised_deed p g f i).graph.nodes
+unfolding raised_deed
+raised_stays p g f (Invokevirtual id) = call_raises_stays p g f.stack (method_at p id)
+raised_stays p g f (Invokespecial id) = call_raises_stays p g f.stack (method_at p id)
+raised_stays p g f (Invokestatic id) = call_raises_stays p g f.stack (method_at p id)
+raised_stays p g f i = same g.nodes

@@ -1,8 +1,9 @@
 -- A local that is live names nothing that was given away: a slot that does so names it until it is written, and the first
 -- instruction that reads it would break a rule.
-use Rattle.std.proofs.Common.{◌≡◌, ℕ, Bool, true, false, eqb, refl, ap, sym, ◌∙◌, subst, true≢false, List, Option, Some, None, Ok}
+use Rattle.std.proofs.Common.{◌≡◌, ℕ, Bool, true, false, eqb, refl, ap, sym, ◌∙◌, subst, true≢false, List, [], ◌∷◌, Option, Some, None, Ok}
 use Rattle.std.specs.Prelude.{nat_lt}
 use Rattle.std.proofs.lemmas.Bool.{and_parts, eqb-true}
+use Rattle.kilim_program.specs.declared.class.Handler.{Handler}
 use Rattle.kilim_program.specs.declared.class.Method.{Method}
 use Rattle.kilim_program.specs.declared.instr.Instr.{Instr}
 use Rattle.kilim_program.specs.declared.instr.Instr.TheVariants.{Iload, Lload, Aload, Iinc}
@@ -13,11 +14,12 @@ use Rattle.kilim_program.specs.declared.verified.VType.TheVariants.{Top, Int, Lo
 use Rattle.kilim_program.specs.Lengths.{fetched, is_code_place}
 use Rattle.kilim_program.specs.Program.{Program}
 use Rattle.kilim_type_spec.specs.Step.{Types, Operand, Is, Loads, Adds, by_row, is_top, meets, peek, row, type_step}
-use Rattle.kilim_type_spec.specs.Typed.{Among, GoesOn, Live, ReadsIt, declared, edges, entry, reads}
+use Rattle.kilim_type_spec.specs.Typed.{Among, FlowsInto, GoesOn, Live, ReadsIt, declared, edges, entry, reads}
 use Rattle.kilim_type_laws.proofs.Edges.{edges_flow, stands_at}
 use Rattle.kilim_type_laws.proofs.Lives.{live_is_typed}
-use Rattle.kilim_type_laws.proofs.Tops.{passed}
-use Rattle.kilim_isolation_paths.specs.Paths.{Reaches}
+use Rattle.kilim_type_laws.proofs.Tops.{passed, top_flows}
+use Rattle.kilim_isolation_paths.specs.declared.machine.Exit.TheVariants as exit
+use Rattle.kilim_isolation_paths.specs.Paths.{Has, Reaches}
 use Rattle.kilim_isolation_paths.proofs.Accepted.{reaches_more}
 use Rattle.kilim_isolation_graph.specs.declared.graph.Graph.{Graph}
 use Rattle.kilim_isolation_graph.specs.Canonical.{canonical_at}
@@ -25,13 +27,14 @@ use Rattle.kilim_isolation_graph.specs.Entry.{entry_nodes}
 use Rattle.kilim_isolation_graph.specs.Graphs.{node_of, slot}
 use Rattle.kilim_isolation_graph.specs.Nodes.{is_gone}
 use Rattle.kilim_isolation_rules.specs.Marks.{names_gone}
-use Rattle.kilim_isolation_rules.specs.Rules.{any_flow_mixes, deed, left_by, moves}
-use Rattle.kilim_isolation.specs.Walks.{declared_to, machine_of, types_at}
-use Rattle.kilim_isolation_laws.specs.reached_objects.live.Laws.{IsAcceptedBy, IsThere, LiveIsThere, NamedIsNoNumber, is_number}
-use Rattle.kilim_isolation_laws.proofs.reached_objects.live.Along.{BreaksNone, among_exit, begins_with, clean, exit_at, judged_none, reached, some_exit, stepped}
+use Rattle.kilim_isolation_rules.specs.Rules.{any_flow_mixes, deed, left_by, moves, raised_deed}
+use Rattle.kilim_isolation.specs.Walks.{covers, declared_to, exits_at, exits_by, handled_at, machine_of, types_at}
+use Rattle.kilim_isolation_laws.specs.reached_objects.live.Laws.{IsAcceptedBy, IsThere, IsThereBelow, LiveBelowIsThere, LiveIsThere, NamedIsNoNumber, is_number}
+use Rattle.kilim_isolation_laws.proofs.reached_objects.live.Along.{BreaksNone, among_by, begins_with, clean, exit_at, judged_none, raised_to, reached, reader_goes, some_by, stepped}
+use Rattle.kilim_isolation_laws.proofs.reached_objects.graphs.FromSteps.{handles_has, has_behind}
 use Rattle.kilim_isolation_laws.proofs.reached_objects.live.Entry.{entry_named}
 use Rattle.kilim_isolation_laws.proofs.reached_objects.live.Gone.{deed_stays}
-use Rattle.kilim_isolation_laws.proofs.reached_objects.live.Locals.{named_no_number, slot_stays}
+use Rattle.kilim_isolation_laws.proofs.reached_objects.live.Locals.{named_no_number, raised_locals, slot_stays}
 use Rattle.kilim_isolation_laws.proofs.reached_objects.live.Nodes.{HasType, gone_at, named_at}
 use Rattle.kilim_isolation_laws.proofs.reached_objects.live.Places.{declared_is, entry_here, number_flows, number_here}
 
@@ -46,19 +49,33 @@ module _ (p : Program) (id : MethodId) (m : Method) (typing : ℕ → Types) (fs
     pub breaks_none : BreaksNone (deed p m g (types_at m fs at) i) (deed p m g (types_at m fs at) i).graph
     pub comes : (q : ℕ) → to ≡ Some q → Reaches (machine_of p m fs a.goes.first) q (canonical_at (declared m q) (deed p m g (types_at m fs at) i).graph)
 
-  pub passes : (at next : ℕ) (i : Instr) (g : Graph) (to : Option ℕ) → Reaches (machine_of p m fs a.goes.first) at g → fetched m.code m.code_length at ≡ Some (i, next) → Rattle.kilim_isolation_paths.specs.Paths.Has (Rattle.kilim_isolation.specs.Walks.exits_to (edges i next)) to → Passes at i g to
+  pub passes : (at next : ℕ) (i : Instr) (g : Graph) (to : Option ℕ) → Reaches (machine_of p m fs a.goes.first) at g → fetched m.code m.code_length at ≡ Some (i, next) → Has (exits_by i next) to → Passes at i g to
   unfolding moves
-  passes at next i g to r is exit =
-      let goes = a.goes.goes at g to r (exit_at m at next i to is exit) in
+  passes at next i g to r is out =
+      let goes = a.goes.goes at g (exit.To to) r (exit_at m at next i to is out) in
       let s = stepped p m fs at next i g to goes.0 is goes.1 in
       let b = judged_none (deed p m g (types_at m fs at) i) (any_flow_mixes p (left_by p m i (types_at m fs at)) (declared_to m to)) s.0 s.1 in
       record {
         moves_on = s.1 ∙ ap (λ (z : Graph). Ok z) (sym b.graph);
         breaks_none = record { free = b.free; there = b.there; graph = refl };
         comes = λ q e. subst (λ (z : Graph). Reaches (machine_of p m fs a.goes.first) q z) (sym (ap (canonical_at (declared m q)) b.graph ∙ (ap (λ (o : Option ℕ). canonical_at (declared_to m o) s.0) (sym e) ∙ s.2)))
-            (reaches_more (machine_of p m fs a.goes.first) at g q goes.0 r (subst (λ (o : Option ℕ). Rattle.kilim_isolation_paths.specs.Paths.Has (Rattle.kilim_isolation.specs.Walks.exits_at m at) o) e (exit_at m at next i to is exit))
-            (subst (λ (o : Option ℕ). Rattle.kilim_isolation.specs.Walks.step p m fs at g o ≡ Ok goes.0) e goes.1));
+            (reaches_more (machine_of p m fs a.goes.first) at g (exit.To to) q goes.0 r e (exit_at m at next i to is out) goes.1);
       }
+
+  -- the graph along a handler's edge is reached
+  pub comes_to : (at next : ℕ) (i : Instr) (g : Graph) (h : Handler) → Reaches (machine_of p m fs a.goes.first) at g → fetched m.code m.code_length at ≡ Some (i, next) → Has m.handlers h → covers h at ≡ true →
+      Reaches (machine_of p m fs a.goes.first) h.at (canonical_at (declared m h.at) (raised_deed p g (types_at m fs at) i).graph)
+  comes_to at next i g h r is has covering =
+      let out : Has (exits_at m at) (exit.Handler h.at) = has_behind _ (handled_at m.handlers at) (exit.Handler h.at) (handles_has m.handlers at h has covering) in
+      let goes = a.goes.goes at g (exit.Handler h.at) r out in
+      subst (λ (z : Graph). Reaches (machine_of p m fs a.goes.first) h.at z) (raised_to p m fs at next i g h.at goes.0 is goes.1)
+      (reaches_more (machine_of p m fs a.goes.first) at g (exit.Handler h.at) h.at goes.0 r refl out goes.1)
+
+  -- each local before an instruction flows into the frame at its handler
+  handler_flows : (at next : ℕ) (i : Instr) → fetched m.code m.code_length at ≡ Some (i, next) → (h : Handler) → Has m.handlers h → covers h at ≡ true → FlowsInto p (record (typing at) { stack = a.handlers.caught h ∷ [] }) (typing h.at)
+  handler_flows at next i is h has covering =
+      let w = a.handlers.flows at next i is h has covering in
+      subst (λ (z : Types). FlowsInto p (record (typing at) { stack = a.handlers.caught h ∷ [] }) z) (sym (declared_is p m typing a.well h.at w.0 (a.handlers.place h has) w.1)) w.2
 
   -- ---- names and numbers
 
@@ -80,8 +97,15 @@ module _ (p : Program) (id : MethodId) (m : Method) (typing : ℕ → Types) (fs
       let left = named_no_number p m at i g (types_at m fs at) (typing at) flow.left flow.step here k b.0 (ap (λ (z : Graph). slot z.locals k) d.graph ∙ b.1) in
       not_both (is_number (peek (typing q).locals k)) (λ t. true≢false (sym (number_flows p (peek flow.left.locals k) (peek (typing q).locals k) (flow.flows.locals k) t) ∙ left))
 
+  caught_named : (at next : ℕ) (i : Instr) (h : Handler) (g : Graph) → fetched m.code m.code_length at ≡ Some (i, next) → Has m.handlers h → covers h at ≡ true → AreNamed at g → AreNamed h.at (canonical_at (declared m h.at) (raised_deed p g (types_at m fs at) i).graph)
+  caught_named at next i h g is has covering here k n e =
+      let b = named_at (declared m h.at) (raised_deed p g (types_at m fs at) i).graph k n e in
+      let flow = handler_flows at next i is h has covering in
+      let before = here k b.0 (ap (λ ls. slot ls k) (sym (raised_locals p g (types_at m fs at) i)) ∙ b.1) in
+      not_both (is_number (peek (typing h.at).locals k)) (λ t. true≢false (sym (number_flows p (peek (typing at).locals k) (peek (typing h.at).locals k) (flow.locals k) t) ∙ before))
+
   pub named : (at : ℕ) (g : Graph) → Reaches (machine_of p m fs a.goes.first) at g → AreNamed at g
-  named at g r = reached p m fs a.goes.first AreNamed next_named first_named at g r
+  named at g r = reached p m fs a.goes.first AreNamed (record { on = next_named; caught = caught_named }) first_named at g r
 
   -- ---- live locals
 
@@ -136,12 +160,12 @@ module _ (p : Program) (id : MethodId) (m : Method) (typing : ℕ → Types) (fs
   unfolding Lives
   live_lives k at (ReadsIt x next i is read) g r n e =
       let s = stands_at p a.keeps m typing a.well x i next is in
-      let exit = some_exit (edges i next) in
-      let w = passes x next i g exit.0 r is exit.1 in
+      let out = some_by i next (reader_goes i k read) in
+      let w = passes x next i g out.0 r is out.1 in
       read_lives x k i g (types_at m fs x) s.after read s.step w.breaks_none.there (named x g r) n e
   live_lives k at (GoesOn x next q i is unwritten among live) g r n e =
       let clean_here = clean p m fs a.goes.first a.goes.begins x g r in
-      let w = passes x next i g (Some q) r is (among_exit (edges i next) q among) in
+      let w = passes x next i g (Some q) r is (among_by i next q among) in
       let behind = live_lives k q live (canonical_at (declared m q) (deed p m g (types_at m fs x) i).graph) (w.comes q refl) in
       let flow = edges_flow p a.keeps m typing a.well x next q i is among in
       let typed = has_type q k (declared m q) flow.place refl (live_is_typed p a.keeps m typing a.well k q live) in
@@ -154,8 +178,29 @@ module _ (p : Program) (id : MethodId) (m : Method) (typing : ℕ → Types) (fs
   unfolding Lives
   live_there k at live g r = record { typed = live_is_typed p a.keeps m typing a.well k at live; lives = live_lives k at live g r }
 
+  -- What is live at a handler isn't gone where the instruction raises: there it would stay gone.
+  caught_lives : (k x next : ℕ) (i : Instr) (g : Graph) (h : Handler) → Reaches (machine_of p m fs a.goes.first) x g → fetched m.code m.code_length x ≡ Some (i, next) → Has m.handlers h → covers h x ≡ true → is_top (peek (typing h.at).locals k) ≡ false →
+      ((u : Graph) → Reaches (machine_of p m fs a.goes.first) h.at u → Lives k u) → Lives k (raised_deed p g (types_at m fs x) i).graph
+  unfolding Lives
+  caught_lives k x next i g h r is has covering typed behind n e =
+      let raised = (raised_deed p g (types_at m fs x) i).graph in
+      let there = behind (canonical_at (declared m h.at) raised) (comes_to x next i g h r is has covering) in
+      not_both (is_gone (node_of raised n).standing) (λ gone.
+      let later = gone_at (declared m h.at) raised k n (has_type h.at k (declared m h.at) (a.handlers.place h has) refl typed) e gone in
+      true≢false (sym later.2 ∙ there later.0 later.1))
+
+  pub live_there_below : (at to : ℕ) (i : Instr) → fetched m.code m.code_length at ≡ Some (i, to) → (h : Handler) → Has m.handlers h → covers h at ≡ true → (k : ℕ) → Live m k h.at → (g : Graph) → Reaches (machine_of p m fs a.goes.first) at g → IsThereBelow p m typing fs k at i g
+  unfolding Lives
+  live_there_below at to i is h has covering k live g r = record {
+    typed = not_both (is_top (peek (typing at).locals k)) (λ top. true≢false (sym (top_flows p _ _ ((handler_flows at to i is h has covering).locals k) top) ∙ live_is_typed p a.keeps m typing a.well k h.at live));
+    lives = caught_lives k at to i g h r is has covering (live_is_typed p a.keeps m typing a.well k h.at live) (λ u reached. live_lives k h.at live u reached);
+  }
+
 pub live_is_there : LiveIsThere
 live_is_there p id m typing fs a k at live g r = live_there p id m typing fs a k at live g r
 
 pub named_is_no_number : NamedIsNoNumber
 named_is_no_number p id m typing fs a at g r k n e = named p id m typing fs a at g r k n e
+
+pub live_below_is_there : LiveBelowIsThere
+live_below_is_there p id m typing fs a at to i is h has covering k live g r = live_there_below p id m typing fs a at to i is h has covering k live g r

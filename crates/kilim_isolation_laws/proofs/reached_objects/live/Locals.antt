@@ -27,10 +27,10 @@ use Rattle.kilim_isolation_graph.specs.declared.node.Label.{Label}
 use Rattle.kilim_isolation_graph.specs.declared.node.Label.TheVariants as label
 use Rattle.kilim_isolation_graph.specs.Graphs.{node_of, popped, slot, with_slot}
 use Rattle.kilim_isolation_graph.specs.Nodes.{is_safe}
-use Rattle.kilim_isolation_rules.specs.Calls.{after_argument, after_arguments, after_call, all_passed, arguments, calls, given_result, takes_from}
+use Rattle.kilim_isolation_rules.specs.Calls.{after_argument, after_arguments, after_call, all_passed, arguments, calls, given_result, takes_from, call_raises}
 use Rattle.kilim_isolation_rules.specs.Fields.{child_by, element_kind, got, got_safe, gets_field, puts_field, read_from, reads, stored as stored_deed, stores}
 use Rattle.kilim_isolation_rules.specs.Marks.{given}
-use Rattle.kilim_isolation_rules.specs.Rules.{by_types, deed}
+use Rattle.kilim_isolation_rules.specs.Rules.{by_types, deed, raised_deed}
 use Rattle.kilim_isolation_rules.specs.Steps.{Argument, Cuttable, Free}
 use Rattle.kilim_isolation_laws.proofs.forest.Store.{both_ways}
 use Rattle.kilim_isolation_laws.specs.reached_objects.live.Laws.{is_number}
@@ -399,3 +399,16 @@ module _ (p : Program) (m : Method) where
       none_some : (z : ℕ) → None ≡ Some z → ⊥
       none_some z w = cc
   named_no_number at i g seen f left e are k n is = kept_false _ _ (by_row_back at (row p m i) f left k e (no_store p m i refl)) (are k n (ap (λ ls. slot ls k) (sym (locals_stay p m g seen i refl)) ∙ is))
+
+-- ---- where an instruction raises
+
+call_raises_locals : (p : Program) (g : Graph) (ts : List VType) (o : Option Method) → (call_raises p g ts o).graph.locals ≡ g.locals
+call_raises_locals p g ts None = refl
+call_raises_locals p g ts (Some callee) = arguments_locals (arguments p (all_passed callee g ts)) g
+
+pub raised_locals : (p : Program) (g : Graph) (f : Types) (i : Instr) → (raised_deed p g f i).graph.locals ≡ g.locals
+unfolding raised_deed
+raised_locals p g f (Invokevirtual id) = call_raises_locals p g f.stack (method_at p id)
+raised_locals p g f (Invokespecial id) = call_raises_locals p g f.stack (method_at p id)
+raised_locals p g f (Invokestatic id) = call_raises_locals p g f.stack (method_at p id)
+raised_locals p g f i = refl

@@ -20,7 +20,7 @@ tops_mix p [] ds tops = refl
 tops_mix p (t ∷ ts) [] tops = refl
 tops_mix p (t ∷ ts) (d ∷ ds) tops = subst (λ (z : VType). (mixes p z d || any_mixes p ts ds) ≡ false) (tops 0) (tops_mix p ts ds (λ j. tops (suc j)))
 
-mixes_agree : (p : Program) (ls ks ds : List VType) → AgreeLocals ls ks → any_mixes p ls ds ≡ any_mixes p ks ds
+pub mixes_agree : (p : Program) (ls ks ds : List VType) → AgreeLocals ls ks → any_mixes p ls ds ≡ any_mixes p ks ds
 mixes_agree p [] ks ds agree = sym (tops_mix p ks ds agree)
 mixes_agree p (x ∷ ls) [] ds agree = tops_mix p (x ∷ ls) ds (λ j. sym (agree j))
 mixes_agree p (x ∷ ls) (y ∷ ks) [] agree = refl

@@ -7,7 +7,7 @@ use Rattle.kilim_program.specs.declared.verified.VType.{VType}
 use Rattle.kilim_program.specs.Lengths.{fetched, first_place, is_code_place}
 use Rattle.kilim_program.specs.Program.{Program}
 use Rattle.kilim_type_spec.specs.Step.{Types, peek}
-use Rattle.kilim_type_spec.specs.Typed.{declared, edges}
+use Rattle.kilim_type_spec.specs.Typed.{declared}
 use Rattle.kilim_type_laws.specs.Laws.{typing_at}
 use Rattle.kilim_type_laws.proofs.ByPlace.{typed_by_place}
 use Rattle.kilim_type_laws.proofs.Listed.{listed_frames_show}
@@ -18,10 +18,11 @@ use Rattle.kilim_isolation_graph.specs.Canonical.{canonical_at}
 use Rattle.kilim_isolation_rules.specs.declared.deed.Deed.{Deed}
 use Rattle.kilim_isolation_rules.specs.Rules.{any_flow_mixes, deed, judged, left_by, moves}
 use Rattle.kilim_isolation_pauses.specs.Pausing.{frames_at}
-use Rattle.kilim_isolation.specs.Walks.{declared_to, exits_to, machine_of, types_at, types_of}
+use Rattle.kilim_isolation.specs.Walks.{declared_to, exits_by, machine_of, types_at, types_of}
 use Rattle.kilim_isolation_laws.specs.reached_objects.live.Laws.{IsAcceptedBy}
-use Rattle.kilim_isolation_laws.proofs.reached_objects.live.Along.{exit_among}
+use Rattle.kilim_isolation_laws.proofs.reached_objects.live.Along.{by_among}
 use Rattle.kilim_isolation_laws.proofs.reached_objects.live.Live.{passes}
+use Rattle.kilim_isolation_laws.proofs.reached_objects.live.NoHandlers.{handlers_flow}
 use Rattle.kilim_isolation_laws.specs.reached_objects.walk.Laws.{WalksByTypes}
 use Rattle.kilim_isolation_laws.proofs.reached_objects.walk.Agree.{AgreeLocals}
 use Rattle.kilim_isolation_laws.proofs.reached_objects.walk.Listed.{frames_are_listed}
@@ -63,14 +64,14 @@ module _ (p : Program) (m : Method) (fs : List Frame) (f seen : Types) (locals :
   unfolding alike
   same_deed g i = deed_same p m f.locals seen.locals f.stack f.unset seen.unset locals g i ∙ ap (λ (z : Types). deed p m g z i) is_alike
 
-  no_flow_either : (i : Instr) (next : ℕ) (to : Option ℕ) → Has (exits_to (edges i next)) to → any_flow_mixes p (left_by p m i seen) (declared_to m to) ≡ false → any_flow_mixes p (left_by p m i f) (declared_to m to) ≡ false
+  no_flow_either : (i : Instr) (next : ℕ) (to : Option ℕ) → Has (exits_by i next) to → any_flow_mixes p (left_by p m i seen) (declared_to m to) ≡ false → any_flow_mixes p (left_by p m i f) (declared_to m to) ≡ false
   unfolding alike
   no_flow_either i next None exit none = refl
   no_flow_either i next (Some q) exit none =
-      left_agrees p (left_by p m i f) (left_by p m i alike) (declared m q) (left_by_agree p m f.locals seen.locals f.stack f.unset seen.unset locals i next q (exit_among (edges i next) q exit))
+      left_agrees p (left_by p m i f) (left_by p m i alike) (declared m q) (left_by_agree p m f.locals seen.locals f.stack f.unset seen.unset locals i next q (by_among i next q exit))
       (ap (λ (z : Types). any_flow_mixes p (left_by p m i z) (declared m q)) is_alike ∙ none)
 
-  pub moves_too : (g : Graph) (i : Instr) (next : ℕ) (to : Option ℕ) → Has (exits_to (edges i next)) to → moves p m g seen i (declared_to m to) ≡ Ok (deed p m g seen i).graph → moves p m g f i (declared_to m to) ≡ Ok (deed p m g f i).graph
+  pub moves_too : (g : Graph) (i : Instr) (next : ℕ) (to : Option ℕ) → Has (exits_by i next) to → moves p m g seen i (declared_to m to) ≡ Ok (deed p m g seen i).graph → moves p m g f i (declared_to m to) ≡ Ok (deed p m g f i).graph
   unfolding moves
   moves_too g i next to exit goes =
       let none = no_flow (deed p m g seen i) (any_flow_mixes p (left_by p m i seen) (declared_to m to)) (deed p m g seen i).graph goes in
@@ -84,7 +85,7 @@ walks_by_types t typed keeps id m is coded goes at next i g to reaches there exi
     let fs = frames_at t id in
     let typing : ℕ → Types = typing_at p id in
     let well = typed_by_place p keeps typed.typed id m is coded in
-    let a : IsAcceptedBy p id m typing fs = record { keeps = keeps; is = is; coded = coded; well = well; goes = goes } in
+    let a : IsAcceptedBy p id m typing fs = record { keeps = keeps; is = is; coded = coded; well = well; handlers = handlers_flow p keeps id m is typing; goes = goes } in
     let w = passes p id m typing fs a at next i g to reaches there exit in
     let place = place_of m.code m.code_length at (i, next) there in
     let shows = (listed_frames_show p m typing well at place).1 in

@@ -1,8 +1,11 @@
 -- A thread's frames in accepted code: each stands with a graph that reaches its place, and each lower one waits for the result of a
 -- call, with the graph right after the call.
-use Rattle.std.specs.Prelude.{◌≡◌, ◌⊎◌, ℕ, true, false, List, [], ◌∷◌, ◌++◌, Option, Some, None, Ok}
+use Rattle.std.specs.Prelude.{◌≡◌, ◌⊎◌, ℕ, Bool, true, false, List, [], ◌∷◌, ◌++◌, Option, Some, None, Ok}
 use Rattle.std.specs.FinMap.{get, insert}
+use Rattle.kilim_program.specs.declared.class.Handler.{Handler}
 use Rattle.kilim_program.specs.declared.class.Method.{Method}
+use Rattle.kilim_run_state.specs.declared.value.Object.{Object}
+use Rattle.kilim_program.specs.declared.names.ClassId.{ClassId}
 use Rattle.kilim_program.specs.declared.instr.Instr.{Instr}
 use Rattle.kilim_program.specs.declared.names.BoxName.{BoxName}
 use Rattle.kilim_program.specs.declared.names.MethodId.{MethodId}
@@ -17,24 +20,25 @@ use Rattle.kilim_program.specs.BuiltIn.{built_in_constructor, class_id, class_ty
 use Rattle.kilim_program.specs.Kinds.{kind_of}
 use Rattle.kilim_program.specs.Lengths.{fetched}
 use Rattle.kilim_program.specs.Names.{method_at}
-use Rattle.kilim_run_state.specs.Machine.{Activation, Objects}
+use Rattle.kilim_run_state.specs.Machine.{Activation, Objects, stands_behind}
 use Rattle.kilim_run_machine.specs.Moves.{Move, entered, moves, push_value}
 use Rattle.kilim_run_machine.specs.Moves as move
-use Rattle.kilim_type_spec.specs.Step.{Types, result_types, type_step}
+use Rattle.kilim_type_spec.specs.Step.{Types, class_vtype, peek, result_types, type_step}
 use Rattle.kilim_type_spec.specs.Typed.{Among, FlowsInto, declared, edges, entry, has_code, no_types}
 use Rattle.kilim_isolation_laws.specs.forest.Heap.{IsForest}
 use Rattle.kilim_isolation_laws.specs.forest.Relation.{Safe}
 use Rattle.kilim_isolation_paths.specs.Paths.{Has, Reaches}
+use Rattle.kilim_run_machine.specs.Raising.{catches_class, is_throwable, thrown, unwound}
 use Rattle.kilim_isolation_graph.specs.declared.entry.Parameter.{Parameter}
 use Rattle.kilim_isolation_graph.specs.declared.graph.Graph.{Graph}
 use Rattle.kilim_isolation_graph.specs.Canonical.{canonical_at}
 use Rattle.kilim_isolation_graph.specs.Entry.{parameters_of, quality}
-use Rattle.kilim_isolation_rules.specs.Calls.{given_result, is_owned}
+use Rattle.kilim_isolation_rules.specs.Calls.{given_result, is_owned, handler_graph}
 use Rattle.kilim_isolation_rules.specs.Marks.{flow_mixes, stack_lives}
 use Rattle.kilim_isolation_rules.specs.Rules as rules
-use Rattle.kilim_isolation_rules.specs.Rules.{deed}
-use Rattle.kilim_isolation.specs.Walks.{declared_to, entry_graph, exits_to, machine_of}
-use Rattle.kilim_isolation_laws.specs.graph_rows.Holds.{Fits, HeapFits, IsOf, Stands, Tree, Trees, Waiting, object_sort, refers, trees, type_sort}
+use Rattle.kilim_isolation_rules.specs.Rules.{deed, raised_deed}
+use Rattle.kilim_isolation.specs.Walks.{covers, declared_to, entry_graph, exits_by, machine_of}
+use Rattle.kilim_isolation_laws.specs.graph_rows.Holds.{Fits, HeapFits, IsOf, ObjectFits, Own, Stands, held_by, sort, Tree, Trees, Waiting, object_sort, refers, trees, type_sort}
 use Rattle.kilim_isolation_laws.specs.graph_rows.Facts.{IsGivenAway, IsTaken, IsVerified, ProgramKeeps}
 
 -- the verified frames of each method, by place, and the frames over which the rules walk, in code order
@@ -61,11 +65,22 @@ pub record Passes (p : Program) (m : Method) (typing : ℕ → Types) (fs : List
   pub passed : rules.moves p m g (typing at) i (declared_to m to) ≡ Ok (deed p m g (typing at) i).graph
   pub arrives : (q : ℕ) → to ≡ Some q → Reaches (machine_of p m fs first) q (canonical_at (declared m q) (deed p m g (typing at) i).graph)
 
+-- A handler that covers an instruction, with the locals' types before it: the graph along the edge reaches it, and what flows there, with an
+-- object of a class that it catches alone on the stack, is assignable to the frame that is declared there and mixes no kinds.
+pub record Handled (p : Program) (m : Method) (typing : ℕ → Types) (fs : List Frame) (first : Graph) (f : Types) (g : Graph) (hd : Handler) : Type 0 where
+  pub reaches : Reaches (machine_of p m fs first) hd.at (canonical_at (declared m hd.at) g)
+  pub types : (c : ClassId) → is_throwable p c ≡ true → catches_class p hd.catch c ≡ true → Becomes p (record f { stack = class_vtype c ∷ [] }) (declared m hd.at) (typing hd.at)
+  pub flow : (c : ClassId) → is_throwable p c ≡ true → (d : Types) → declared m hd.at ≡ Some d → flow_mixes p (record f { stack = class_vtype c ∷ [] }) d ≡ false
+
 pub record MethodKeeps (p : Program) (m : Method) (typing : ℕ → Types) (fs : List Frame) : Type 0 where
   pub flow : TypesFlow p m typing
   pub begins : (first : Graph) × (entry_graph p m ≡ Ok first)
   pub passes : (first : Graph) → entry_graph p m ≡ Ok first → (at : ℕ) (g : Graph) → Reaches (machine_of p m fs first) at g → (i : Instr) (next : ℕ) → fetched m.code m.code_length at ≡ Some (i, next) →
-      (to : Option ℕ) → Has (exits_to (edges i next)) to → Passes p m typing fs first at g i to
+      (to : Option ℕ) → Has (exits_by i next) to → Passes p m typing fs first at g i to
+  pub handled : (first : Graph) → entry_graph p m ≡ Ok first → (at : ℕ) (g : Graph) → Reaches (machine_of p m fs first) at g → (i : Instr) (next : ℕ) → fetched m.code m.code_length at ≡ Some (i, next) →
+      (hd : Handler) → Has m.handlers hd → covers hd at ≡ true → Handled p m typing fs first (typing at) (raised_deed p g (typing at) i).graph hd
+  -- the instruction behind which its next place stands is this one: places increase
+  pub behind : (at next : ℕ) (i : Instr) → fetched m.code m.code_length at ≡ Some (i, next) → stands_behind m.code m.code_length next ≡ Some (at, i)
 
 -- what is true of the program and of each method with code
 pub record IsSound (p : Program) (typings : Typings) (listed : Listed) : Type 0 where
@@ -100,6 +115,12 @@ pub record Waits (p : Program) (typings : Typings) (listed : Listed) (a : Activa
   pub types : Becomes p (record w.types { stack = result_types gets ++ w.types.stack }) (declared w.method a.place) (typings a.method a.place)
   pub flow : (d : Types) → declared w.method a.place ≡ Some d → flow_mixes p (record w.types { stack = result_types gets ++ w.types.stack }) d ≡ false
   pub live : stack_lives (given_result p gets w.graph) ≡ true
+  -- at each handler that covers its call: the types of its locals before the call, of the same sorts as those behind it
+  pub call : ℕ × Instr
+  pub stands : stands_behind w.method.code w.method.code_length a.place ≡ Some call
+  pub before : Types
+  pub sorts : (k : ℕ) → sort p w.method (peek w.types.locals k) ≡ sort p w.method (peek before.locals k)
+  pub handled : (hd : Handler) → Has w.method.handlers hd → covers hd call.0 ≡ true → Handled p w.method (typings a.method) (listed a.method) first before (handler_graph w.graph) hd
 
 -- The object that task 0 keeps stands below all frames: one safe node, which nothing changes.
 abbrev pub keeper : ℕ → Waiting
@@ -137,6 +158,19 @@ abbrev pub FramesFit : Program → Typings → Listed → Option ℕ → Objects
 FramesFit p typings listed kept h [] = EndFits p kept h
 FramesFit p typings listed kept h (top ∷ frames) = ThreadFits p typings listed kept h top frames
 
+-- ---- exceptions
+
+-- an object that may be thrown: it is private
+pub record IsThrown (p : Program) (h : Objects) (c : ClassId) (n : ℕ) : Type 0 where
+  pub is : IsOf p h n Own
+  pub own : object_sort p (class_type c.0) ≡ Own
+  pub throwable : is_throwable p c ≡ true
+
+-- where some frame catches, the frames from it on
+abbrev pub CaughtFit : Program → Typings → Listed → Option ℕ → Objects → List Activation → Type 0
+CaughtFit p typings listed kept h [] = Unit {0}
+CaughtFit p typings listed kept h (top ∷ frames) = ThreadFits p typings listed kept h top frames
+
 -- ---- a built-in method that is asked
 
 -- none of these is handed on
@@ -159,6 +193,8 @@ pub record AskFits (p : Program) (typings : Typings) (listed : Listed) (kept : O
   -- the tree that is given is whole: nothing holds it
   pub whole : (o : ℕ) → Gives p (parameters_of callee) args o → ((trees p h).has o ≡ true) × ((q i : ℕ) → (trees p h).to q i ≡ Some o → ⊥)
   pub gives : callee.result ≡ None → (o : ℕ) → Gives p (parameters_of callee) args o → (h' : Objects) → IsGivenAway p h h' o → FramesFit p typings listed kept h' frames
+  -- it raises: its frame stands behind the call, without the result
+  pub raises : (c : ClassId) (n : ℕ) → IsThrown p h c n → CaughtFit p typings listed kept h (unwound p c (Ref n) frames)
   pub comes : (ty : Ty) → callee.result ≡ Some ty → (h' : Objects) (n dims : ℕ) → (stuff : Rattle.kilim_isolation_laws.specs.graph_rows.Holds.Stuff) → IsTaken p h h' n dims stuff → type_sort p ty ≡ Tree dims stuff → kind_of p ty ≡ kind.Tree →
       FramesFit p typings listed kept h' (push_value (Ref n) frames)
 
@@ -189,6 +225,17 @@ TopIsVerified p typings top h = (m : Method) (i : Instr) (next : ℕ) → method
 abbrev pub MovesKeep : Type 0
 MovesKeep = (p : Program) (typings : Typings) (listed : Listed) (kept : Option ℕ) (top : Activation) (frames : List Activation) (h : Objects) → IsSound p typings listed → TopIsVerified p typings top h →
     ThreadFits p typings listed kept h top frames → MoveFits p typings listed kept (moves p top frames h)
+
+-- where an instruction of accepted code throws an object, the frames that are left fit
+abbrev pub ThrowsKeep : Type 0
+ThrowsKeep = (p : Program) (typings : Typings) (listed : Listed) (kept : Option ℕ) (top : Activation) (frames : List Activation) (h : Objects) → IsSound p typings listed → ThreadFits p typings listed kept h top frames →
+    (m : Method) (i : Instr) (next : ℕ) → method_at p top.method ≡ Some m → fetched m.code m.code_length top.place ≡ Some (i, next) → (c : ClassId) (n : ℕ) → IsThrown p h c n →
+    CaughtFit p typings listed kept h (thrown p c (Ref n) top frames)
+
+-- a new private object that holds nothing changes no frame
+abbrev pub NewObjectsKeep : Type 0
+NewObjectsKeep = (p : Program) (typings : Typings) (listed : Listed) (kept : Option ℕ) (top : Activation) (frames : List Activation) (h : Objects) (n : ℕ) (ob : Object) → get h n ≡ None → ((z : Bool × ℕ) → held_by ob z ≡ None) →
+    ObjectFits p (insert h n ob) ob → ThreadFits p typings listed kept h top frames → ThreadFits p typings listed kept (insert h n ob) top frames
 
 -- A method without arguments begins on an object that is a tree: the constructor of the main class, whose object is kept, and `execute`.
 -- What it may hand on is whole, and what is kept it may not hand on.

@@ -1,5 +1,5 @@
 -- Live locals on the paths of accepted methods. Neither a heap nor a machine is spoken of.
-use Rattle.std.specs.Prelude.{◌≡◌, ℕ, Bool, true, false, ◌||◌, List, Some}
+use Rattle.std.specs.Prelude.{◌≡◌, ℕ, Bool, true, false, ◌||◌, List, [], ◌∷◌, Some}
 use Rattle.kilim_program.specs.declared.class.Method.{Method}
 use Rattle.kilim_program.specs.declared.names.MethodId.{MethodId}
 use Rattle.kilim_program.specs.declared.verified.Frame.{Frame}
@@ -8,16 +8,28 @@ use Rattle.kilim_program.specs.Keeps.{Keeps}
 use Rattle.kilim_program.specs.Names.{method_at}
 use Rattle.kilim_program.specs.Program.{Program}
 use Rattle.kilim_type_spec.specs.Step.{Types, peek, is_int, is_long, is_top}
-use Rattle.kilim_type_spec.specs.Typed.{Live, WellTypedBy, has_code}
-use Rattle.kilim_isolation_paths.specs.Paths.{Reaches}
+use Rattle.kilim_type_spec.specs.Typed.{FlowsInto, Live, WellTypedBy, declared, has_code}
+use Rattle.kilim_isolation_paths.specs.Paths.{Has, Reaches}
 use Rattle.kilim_isolation_graph.specs.declared.graph.Graph.{Graph}
 use Rattle.kilim_isolation_graph.specs.Graphs.{node_of, slot}
 use Rattle.kilim_isolation_graph.specs.Nodes.{is_gone}
 use Rattle.kilim_isolation.specs.Laws.{GoesOn}
-use Rattle.kilim_isolation.specs.Walks.{machine_of}
+use Rattle.kilim_isolation.specs.Walks.{covers, machine_of, types_at}
+use Rattle.kilim_isolation_rules.specs.Rules.{raised_deed}
+use Rattle.kilim_program.specs.Lengths.{fetched, is_code_place}
+use Rattle.kilim_program.specs.declared.class.Handler.{Handler}
+use Rattle.kilim_program.specs.declared.instr.Instr.{Instr}
 
 abbrev pub is_number : VType → Bool
 is_number t = is_int t || is_long t
+
+-- Verification's rule on handlers: a frame is declared at each, and what stands before an instruction of its range flows into that,
+-- with what it catches alone on the stack.
+pub record HandlersFlow (p : Program) (m : Method) (typing : ℕ → Types) : Type 0 where
+  pub caught : Handler → VType
+  pub place : (h : Handler) → Has m.handlers h → is_code_place m.code h.at ≡ true
+  pub flows : (at next : ℕ) (i : Instr) → fetched m.code m.code_length at ≡ Some (i, next) → (h : Handler) → Has m.handlers h → covers h at ≡ true →
+      (d : Types) × (declared m h.at ≡ Some d) × FlowsInto p (record (typing at) { stack = caught h ∷ [] }) d
 
 -- A method of the program, with code, that is well typed by the frames at its places and whose graphs go on along every path. The
 -- frames over which the rules walk are given apart: in a typed program they are the listed ones.
@@ -26,6 +38,7 @@ pub record IsAcceptedBy (p : Program) (id : MethodId) (m : Method) (typing : ℕ
   pub is : method_at p id ≡ Some m
   pub coded : has_code m ≡ true
   pub well : WellTypedBy p m typing
+  pub handlers : HandlersFlow p m typing
   pub goes : GoesOn p m fs
 
 -- ---- live locals
@@ -43,3 +56,12 @@ LiveIsThere = (p : Program) (id : MethodId) (m : Method) (typing : ℕ → Types
 -- a local that names a node is typed neither int nor long
 abbrev pub NamedIsNoNumber : Type 0
 NamedIsNoNumber = (p : Program) (id : MethodId) (m : Method) (typing : ℕ → Types) (fs : List Frame) (a : IsAcceptedBy p id m typing fs) (at : ℕ) (g : Graph) → Reaches (machine_of p m fs a.goes.first) at g → (k n : ℕ) → slot g.locals k ≡ Some n → is_number (peek (typing at).locals k) ≡ false
+
+-- A local that is live at a handler whose range has an instruction: it has a type before the instruction, and what it names isn't gone
+-- when the instruction raises. So it is with the call of a frame that waits.
+pub record IsThereBelow (p : Program) (m : Method) (typing : ℕ → Types) (fs : List Frame) (k at : ℕ) (i : Instr) (g : Graph) : Type 0 where
+  pub typed : is_top (peek (typing at).locals k) ≡ false
+  pub lives : (n : ℕ) → slot (raised_deed p g (types_at m fs at) i).graph.locals k ≡ Some n → is_gone (node_of (raised_deed p g (types_at m fs at) i).graph n).standing ≡ false
+
+abbrev pub LiveBelowIsThere : Type 0
+LiveBelowIsThere = (p : Program) (id : MethodId) (m : Method) (typing : ℕ → Types) (fs : List Frame) (a : IsAcceptedBy p id m typing fs) (at to : ℕ) (i : Instr) → fetched m.code m.code_length at ≡ Some (i, to) → (h : Handler) → Has m.handlers h → covers h at ≡ true → (k : ℕ) → Live m k h.at → (g : Graph) → Reaches (machine_of p m fs a.goes.first) at g → IsThereBelow p m typing fs k at i g

@@ -9,7 +9,7 @@ use Rattle.kilim_program.specs.Lengths.{fetched, is_code_place}
 use Rattle.kilim_program.specs.Names.{method_at}
 use Rattle.kilim_program.specs.Program.{Program}
 use Rattle.kilim_type_spec.specs.Step.{Types}
-use Rattle.kilim_type_spec.specs.Typed.{declared, edges, has_code, listed}
+use Rattle.kilim_type_spec.specs.Typed.{declared, has_code, listed}
 use Rattle.kilim_type_laws.specs.Laws.{typing_at}
 use Rattle.kilim_type_spec.specs.TypedProgram.{KeepsTyped, TypedProgram}
 use Rattle.kilim_isolation_paths.specs.Paths.{Has, Reaches}
@@ -19,7 +19,7 @@ use Rattle.kilim_isolation_rules.specs.Rules.{deed, moves}
 use Rattle.kilim_isolation_pauses.specs.Pausing.{frames_at}
 use Rattle.kilim_isolation.specs.Faults.{IsAccepted}
 use Rattle.kilim_isolation.specs.Laws.{GoesOn}
-use Rattle.kilim_isolation.specs.Walks.{declared_to, exits_to, frame_among, machine_of}
+use Rattle.kilim_isolation.specs.Walks.{declared_to, exits_by, frame_among, machine_of}
 
 -- the frame that is listed for a place shows the types there
 abbrev pub FramesAreListed : Type 0
@@ -33,7 +33,7 @@ pub record WalksOn (p : Program) (m : Method) (typing : ℕ → Types) (fs : Lis
 
 abbrev pub WalksByTypes : Type 0
 WalksByTypes = (t : TypedProgram) → KeepsTyped t → Keeps t.program → (id : MethodId) (m : Method) → method_at t.program id ≡ Some m → has_code m ≡ true → (goes : GoesOn t.program m (frames_at t id)) →
-    (at next : ℕ) (i : Instr) (g : Graph) (to : Option ℕ) → Reaches (machine_of t.program m (frames_at t id) goes.first) at g → fetched m.code m.code_length at ≡ Some (i, next) → Has (exits_to (edges i next)) to →
+    (at next : ℕ) (i : Instr) (g : Graph) (to : Option ℕ) → Reaches (machine_of t.program m (frames_at t id) goes.first) at g → fetched m.code m.code_length at ≡ Some (i, next) → Has (exits_by i next) to →
     WalksOn t.program m (typing_at t.program id) (frames_at t id) goes.first at i g to
 
 -- in an accepted program the graphs of every method with code go on along every path

@@ -1,8 +1,9 @@
-use Rattle.std.proofs.Common.{◌∙◌, ap, sym, arith, slice_get, List, Option, ℕ, length, ◌<◌}
+use Rattle.std.proofs.Common.{◌∙◌, ap, sym, arith, slice_get, List, ℕ, length, ◌<◌}
 use Rattle.std.proofs.lemmas.Option.{slice_get-get_or}
 use Rattle.kilim_isolation_paths.proofs.Lists.{is_none, has_in}
 use Rattle.kilim_isolation_paths.proofs.Ends.{visit_start, at_later, exit_of, exit_inside, visit_step, visit_full, visit_end}
 use Rattle.kilim_isolation_paths.specs.declared.store.Reached.{Reached}
+use Rattle.kilim_isolation_paths.specs.declared.machine.Exit.{Exit}
 use Rattle.kilim_isolation_paths.proofs.Steps.{same_later}
 use Rattle.kilim_isolation_paths.proofs.search.visit.Goals as goal
 
@@ -23,12 +24,12 @@ pub take-requires-clause-exit : goal.take-requires-clause-exit
 take-requires-clause-exit g c = λ e i.
     exit_of (g.M.Moves.means c.args.machine.now) c.args.store.now.entries c.loop-exit.store.entries c.loop-exit.invariant.later.more c.args.at c.loop-exit.exit-index _ c.get.result.now e
     c.loop-exit.invariant.later.is c.get.ensures
-    (ap (λ (xs : List (Option ℕ)). slice_get xs c.loop-exit.exit-index) (sym (c.as_slice-exit-items.ensures ∙ c.in-Ok.ensures.exits)) ∙ slice_get-get_or c.as_slice-exit-items.result.now c.loop-exit.exit-index _ c.loop-exit-test.true)
+    (ap (λ (xs : List Exit). slice_get xs c.loop-exit.exit-index) (sym (c.as_slice-exit-items.ensures ∙ c.in-Ok.ensures.exits)) ∙ slice_get-get_or c.as_slice-exit-items.result.now c.loop-exit.exit-index _ c.loop-exit-test.true)
     i
 
 pub take-requires-clause-inside : goal.take-requires-clause-inside
 take-requires-clause-inside g c =
-    exit_inside c.as_slice-exit-items.result.now c.in-Ok.exits c.loop-exit.exit-index c.loop-exit.store.size (g.M.Moves.means c.args.machine.now).size
+    exit_inside c.as_slice-exit-items.result.now c.in-Ok.exits c.loop-exit.exit-index c.loop-exit.store.size (g.M.Moves.means c.args.machine.now).size _
     c.as_slice-exit-items.ensures c.loop-exit-test.true c.in-Ok.ensures.within c.loop-exit.invariant.good.size
 
 pub returns-then-is_some : goal.returns-then-is_some
@@ -40,7 +41,7 @@ pub loop-exit-preserved : goal.loop-exit-preserved
 loop-exit-preserved g c =
     let r = visit_step (g.M.Moves.means c.args.machine.now) (g.M.Moves.fits c.args.machine.now) c.args.store.now c.loop-exit.store c.take.new.store c.args.found.now.items c.loop-exit.found.items c.take.new.found.items c.args.at c.loop-exit.exit-index _ c.in-Ok-take.full c.get.result.now
     c.loop-exit.invariant.later c.loop-exit.invariant.done c.get.ensures
-    (ap (λ (xs : List (Option ℕ)). slice_get xs c.loop-exit.exit-index) (sym (c.as_slice-exit-items.ensures ∙ c.in-Ok.ensures.exits)) ∙ slice_get-get_or c.as_slice-exit-items.result.now c.loop-exit.exit-index _ (omega arith))
+    (ap (λ (xs : List Exit). slice_get xs c.loop-exit.exit-index) (sym (c.as_slice-exit-items.ensures ∙ c.in-Ok.ensures.exits)) ∙ slice_get-get_or c.as_slice-exit-items.result.now c.loop-exit.exit-index _ (omega arith))
     c.in-Ok-take.ensures (is_none c.in-Ok-take.full (sym c.is_some.ensures ∙ c.if-is_some.false)) in
     record { good = r.0; later = r.1; done = r.2 }
 

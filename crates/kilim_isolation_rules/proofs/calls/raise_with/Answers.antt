@@ -1,0 +1,8 @@
+use Rattle.std.proofs.Common.{ap, ◌∙◌}
+use Rattle.kilim_isolation_rules.specs.Calls as spec
+use Rattle.kilim_isolation_rules.proofs.calls.raise_with.Goals as goal
+
+pub returns : goal.returns
+returns c =
+    c.broken_by-broken.ensures c.leave_one.new.graph
+    ∙ ap (spec.passes_with c.args.program.now c.args.arguments.now c.args.graph.now) (c.in-Ok-leave_one.ensures ∙ ap spec.handler_graph c.in-Ok.ensures)
