@@ -39,11 +39,6 @@ use Rattle.kilim_fiber.specs.declared.fiber.Asked.{Asked}
 use Rattle.kilim_fiber.specs.declared.fiber.Asked.TheVariants as asked
 use Rattle.kilim_fiber.specs.declared.fiber.Fiber.{Fiber}
 
--- to take from a mailbox
-abbrev to_take : Option BoxName → Option Waits
-to_take None = None
-to_take (Some box) = Some (wait.Take box)
-
 on_ok : {A E : Type 0} (r : Result A E) (P Q : Type 0) → (P → Q) → OnOk r P → OnOk r Q
 on_ok (Ok x) P Q go w = go w
 on_ok (Err x) P Q go w = w
@@ -134,12 +129,12 @@ module _ (set : Setting) (code : Code) (old : Fiber) (x : Asked) (new : Fiber) (
           roomy = roomy;
           most = omega (arith, few, count);
           is-main = held.is-main ∙ sym n.main;
-          refused = λ box h. absurd (none-some box (sym n.refused ∙ h));
+          refused = λ v h. absurd (none-some v (sym n.refused ∙ h));
         };
       }
 
   -- with the deed that was made
-  made : (wish : Wish) (d : Deed) (s : Standing) (deed : Option Deed) → deed ≡ Some d → ((before after : ℕ) (refused : Option BoxName) → before < after → refused ≡ None → CountsRightly wish before after refused (Some d)) →
+  made : (wish : Wish) (d : Deed) (s : Standing) (deed : Option Deed) → deed ≡ Some d → ((before after : ℕ) (refused : Option Waits) → before < after → refused ≡ None → CountsRightly wish before after refused (Some d)) →
       Noted mid new d → standing_at 0 new.body ≡ s → RoomyIn W new.body.frames → s.done ≡ old.body.count + 1 → IsBehind d s → Went code set old wish deed new
   made wish d s deed e counts n at roomy one w =
       let few = held.few in
@@ -147,7 +142,7 @@ module _ (set : Setting) (code : Code) (old : Fiber) (x : Asked) (new : Fiber) (
       subst (λ (o : Option Deed). Went code set old wish o new) (sym e)
       (further_is d n, stands d s n at roomy one w, counts old.body.count new.body.count new.refused (omega (arith, count)) n.refused, omega (arith, few, count))
 
-  passed : (wish : Wish) (d : Deed) (s : Standing) (deed : Option Deed) → deed ≡ Some d → ((before after : ℕ) (refused : Option BoxName) → before < after → refused ≡ None → CountsRightly wish before after refused (Some d)) →
+  passed : (wish : Wish) (d : Deed) (s : Standing) (deed : Option Deed) → deed ≡ Some d → ((before after : ℕ) (refused : Option Waits) → before < after → refused ≡ None → CountsRightly wish before after refused (Some d)) →
       Passed W mid new d s → s.done ≡ old.body.count + 1 → IsBehind d s → Went code set old wish deed new
   passed wish d s deed e counts w one behind = made wish d s deed e counts w.noted w.stands w.roomy one behind
 
@@ -197,7 +192,7 @@ module _ (set : Setting) (code : Code) (old : Fiber) (x : Asked) (new : Fiber) (
         is-main = held.is-main ∙ sym w.main;
         refused = λ other d. (
           omega (arith, some, count),
-          ap (λ (t : ℕ). stands_at set t last) w.task ∙ (at ∙ ap to_take (sym w.refused ∙ d)),
+          ap (λ (t : ℕ). stands_at set t last) w.task ∙ (at ∙ (sym w.refused ∙ d)),
         );
       } in
       let lone : IsLone set new.task (course_of new) last = subst (λ (c : Course). IsLone set new.task c last) (sym w.course) (subst (λ (t : ℕ). IsLone set t (course_of old) last) (sym w.task) is) in

@@ -95,7 +95,7 @@ module _ (set : Setting) (code : Code) (served : ServesCode set code) where
           roomy = subst (λ (x : Body). RoomyIn W x.frames) (sym new.body) roomy;
           most = let count : f.body.count ≡ 0 = ap (λ (x : Body). x.count) new.body ∙ zero in omega (arith, count);
           is-main = main ∙ sym new.main;
-          refused = λ box e. absurd (none-some box (sym new.refused ∙ e));
+          refused = λ v e. absurd (none-some v (sym new.refused ∙ e));
         };
       }
 
@@ -157,7 +157,7 @@ numbered W marks set f k none zero s = record {
     roomy = s.held.roomy;
     most = s.held.most;
     is-main = s.held.is-main;
-    refused = λ box e. let lt = (s.held.refused box e).0 in let absurdly : ⊥ = omega (arith, lt, zero) in absurd absurdly;
+    refused = λ v e. let lt = (s.held.refused v e).0 in let absurdly : ⊥ = omega (arith, lt, zero) in absurd absurdly;
   };
 }
 

@@ -1,7 +1,7 @@
 -- What a fiber that rests keeps.
 use Rattle.std.proofs.Common.{◌≡◌, ◌+◌, Bool, true, false, length, Option, Some, None, Result, Ok, Err, sym, ap, subst, ◌∙◌, arith}
 use Rattle.std.specs.Prelude.{IfOk}
-use Rattle.kilim_program.specs.declared.names.BoxName.{BoxName}
+use Rattle.kilim_run_model.specs.declared.waits.Waits.{Waits}
 use Rattle.kilim_run_board.specs.fibers.Fibers.{CanRun, StandsFor}
 use Rattle.kilim_run_board.specs.declared.fibers.Wants.{Wants}
 use Rattle.kilim_run_board.specs.declared.fibers.Wants.TheVariants as wants
@@ -46,17 +46,17 @@ module _ (code : Code) (limits : Limits) where
   -- ---- a body that came to rest
 
   module _ (f : Fiber) (b : Body) (busy : f.idle ≡ false) (none : b.frames ≡ None) (can : MayRun f) (comes : Came_to f b came.Rests) where
-    abbrev now : Asked → Option BoxName → Fiber
+    abbrev now : Asked → Option Waits → Fiber
     now q refused = record f { body = b; asked = q; refused = refused; rests = true }
 
     keeps : (set : Setting) → ServesCode set code → set.limits ≡ limits → (s : StandsIn set f) → Keeps set f.task (course_of f) b.records
     keeps set served is-limits s =
         keeps_each set code.program code.counted served.can f.task (course_of f) (standing_at 0 b) (comes set served is-limits s) (ap calls_in none)
 
-    count : (q : Asked) (refused : Option BoxName) → records_of (now q refused) ≡ 1 + length (deeper_of b.records)
+    count : (q : Asked) (refused : Option Waits) → records_of (now q refused) ≡ 1 + length (deeper_of b.records)
     count q refused = ap (λ (o : Option Frames). records_in o f.idle b.records) none ∙ ap (λ (z : Bool). records_in None z b.records) busy
 
-    rests : (q : Asked) (refused : Option BoxName) (waits : Option BoxName) → Gives f (now q refused) (wants.Rest waits)
+    rests : (q : Asked) (refused : Option Waits) (waits : Option Waits) → Gives f (now q refused) (wants.Rest waits)
     rests q refused waits = (
       record { busy = busy; frames = none; records = (keeps can.set can.served can.is-limits can.stands).left },
       λ set served is-limits s.
@@ -71,16 +71,16 @@ module _ (code : Code) (limits : Limits) where
   pub idle_rests : (old new : Fiber) (w : Wants Fiber) → EndsIdle limits old new w → Gives old new w
   idle_rests old new w e = giving old new w _ e.ends tt
 
-  refused_gives : (f mid new : Fiber) (box : BoxName) (a : Came) (w : Wants Fiber) → f.idle ≡ false → mid ≡ record f { body = mid.body } → MayRun f → NoFrameIsLeft a mid.body → Came_to f mid.body a → RestsAt box a mid new w → Gives f new w
-  refused_gives f mid new box a w busy same can none comes e =
-      let had = subst (λ (m : Fiber). RestsAt box a m new w) same e in
+  refused_gives : (f mid new : Fiber) (v : Waits) (a : Came) (w : Wants Fiber) → f.idle ≡ false → mid ≡ record f { body = mid.body } → MayRun f → NoFrameIsLeft a mid.body → Came_to f mid.body a → RestsAt v a mid new w → Gives f new w
+  refused_gives f mid new v a w busy same can none comes e =
+      let had = subst (λ (m : Fiber). RestsAt v a m new w) same e in
       let left = subst (λ (z : Came). NoFrameIsLeft z mid.body) had.came-is none in
       let here = subst (Came_to f mid.body) had.came-is comes in
-      giving f new w (wants.Rest (Some box)) had.rests (subst (λ (z : Fiber). Gives f z (wants.Rest (Some box))) (sym had.same) (rests f mid.body busy left can here f.asked None (Some box)))
+      giving f new w (wants.Rest (Some v)) had.rests (subst (λ (z : Fiber). Gives f z (wants.Rest (Some v))) (sym had.same) (rests f mid.body busy left can here f.asked None (Some v)))
 
-  pub refused_rests : (f mid new : Fiber) (box : BoxName) (a : Came) (r : Result (Wants Fiber) NoMemory) → f.idle ≡ false → mid ≡ record f { body = mid.body } → MayRun f → NoFrameIsLeft a mid.body → Came_to f mid.body a →
-      IfOk r (λ w. RestsAt box a mid new w) → IfOk r (λ w. Gives f new w)
-  refused_rests f mid new box a r busy same can none comes e = on_ok r (λ w. RestsAt box a mid new w) (λ w. Gives f new w) (λ w x. refused_gives f mid new box a w busy same can none comes x) e
+  pub refused_rests : (f mid new : Fiber) (v : Waits) (a : Came) (r : Result (Wants Fiber) NoMemory) → f.idle ≡ false → mid ≡ record f { body = mid.body } → MayRun f → NoFrameIsLeft a mid.body → Came_to f mid.body a →
+      IfOk r (λ w. RestsAt v a mid new w) → IfOk r (λ w. Gives f new w)
+  refused_rests f mid new v a r busy same can none comes e = on_ok r (λ w. RestsAt v a mid new w) (λ w. Gives f new w) (λ w x. refused_gives f mid new v a w busy same can none comes x) e
 
   module _ (f : Fiber) (b : Body) (busy : f.idle ≡ false) (can : MayRun f) (q : Asked) where
     abbrev after : Came → Fiber

@@ -3,7 +3,7 @@ use Rattle.std.proofs.Common.{◌≡◌, ◌<◌, ◌≤◌, ◌+◌, ◌^◌, n
 use Rattle.std.specs.Prelude.{IfOk}
 use Rattle.std.proofs.lemmas.Option.{none-some}
 use Rattle.kilim_program.specs.Program.{Program}
-use Rattle.kilim_program.specs.declared.names.BoxName.{BoxName}
+use Rattle.kilim_run_model.specs.declared.waits.Waits.{Waits}
 use Rattle.kilim_program.specs.declared.names.ClassId.{ClassId}
 use Rattle.kilim_run_state.specs.Trees.{OfMessage}
 use Rattle.kilim_run_state.specs.declared.cause.EndCause.{EndCause}
@@ -13,7 +13,6 @@ use Rattle.kilim_run_state.specs.declared.value.Object.{Object}
 use Rattle.kilim_run_state.specs.declared.value.Token.{Token}
 use Rattle.kilim_units.specs.declared.memory.NoMemory.{NoMemory}
 use Rattle.kilim_run_model.specs.Course.{next_action, stands_at}
-use Rattle.kilim_run_model.specs.declared.waits.Waits.TheVariants as wait
 use Rattle.kilim_run_model.specs.Lone.{get_at}
 use Rattle.kilim_fiber.proofs.Ends.{own_end, own_wish}
 use Rattle.kilim_run_model.specs.State.{Setting}
@@ -148,9 +147,9 @@ module _ (code : Code) (limits : Limits) where
       held : EndsNext can.set f.task can.stands.lone (idle_cause can.set)
       held = subst (λ (z : Bool). StandsAs code.program code.counted can.set f.task (course_of f) can.stands.lone z f.body) idle can.stands.held.body
 
-      by : (o : Option BoxName) → f.refused ≡ o → o ≡ None
+      by : (o : Option Waits) → f.refused ≡ o → o ≡ None
       by None e = refl
-      by (Some box) e = absurd (none-some (wait.Take box) (sym (ap get_at held.1) ∙ (can.stands.held.refused box e).1))
+      by (Some v) e = absurd (none-some v (sym (ap get_at held.1) ∙ (can.stands.held.refused v e).1))
 
   pub idle_gives : (old new : Fiber) (w : Wants Fiber) → old.idle ≡ true → EndsIdle limits old new w → Gives old new w
   idle_gives old new w idle e =
@@ -188,21 +187,21 @@ module _ (code : Code) (limits : Limits) where
         roomy = roomy;
         most = let same = ap (λ (l : Limits). l.steps) is-limits in omega (arith, most, same);
         is-main = s.held.is-main;
-        refused = λ box e. absurd (none-some box e);
+        refused = λ v e. absurd (none-some v e);
       };
     }
 
-    -- it was refused a message
-    refused_gives : (box : BoxName) (a : Came) (new : Fiber) (w : Wants Fiber) → f.refused ≡ Some box → Came_to a → RestsAt box a mid new w → Gives f new w
+    -- it was refused
+    refused_gives : (v : Waits) (a : Came) (new : Fiber) (w : Wants Fiber) → f.refused ≡ Some v → Came_to a → RestsAt v a mid new w → Gives f new w
     unfolding stands
-    refused_gives box a new w refused comes e =
+    refused_gives v a new w refused comes e =
         let here = subst Came_to e.came-is comes in
         subst (λ (z : Wants Fiber). Gives f new z) (sym e.rests)
-        (subst (λ (z : Fiber). Gives f z (wants.Rest (Some box))) (sym e.same) (record {
+        (subst (λ (z : Fiber). Gives f z (wants.Rest (Some v))) (sym e.same) (record {
           task = refl;
           course = refl;
           wants = λ set served is-limits s.
-              let before = s.held.refused box refused in
+              let before = s.held.refused v refused in
               let some = before.0 in
               record { stands = stands f.asked (omega (arith, some, more)) set is-limits s (here set served is-limits s); at = before.1 };
           rest = (refused, refl);
@@ -279,7 +278,7 @@ module _ (code : Code) (limits : Limits) where
           let lt = more-rested refl in
           wanting came.Rests q w (wants.Rest None) e (gives_by came.Rests q (wants.Rest None)
           (λ set served is-limits s.
-          subst (λ (z : Option BoxName). StandsIn set (record f { body = b; asked = q; refused = z; rests = true })) (sym none) (stands q (omega (arith, lt)) set is-limits s (comes set served is-limits s)))
+          subst (λ (z : Option Waits). StandsIn set (record f { body = b; asked = q; refused = z; rests = true })) (sym none) (stands q (omega (arith, lt)) set is-limits s (comes set served is-limits s)))
           (none, lt, refl) tt tt)
       gives (came.Ends why) q w comes more-rested may e =
           wanting (came.Ends why) q w (wants.End why) e (gives_by (came.Ends why) q (wants.End why)
@@ -294,17 +293,17 @@ module _ (code : Code) (limits : Limits) where
       subst (λ (z : Fiber). Gives f z w) (sym had.same)
       (gives f mid.body busy roomy more most (sym (ap (λ (m : Fiber). m.refused) same) ∙ none) a had.asked w comes had.rested had.may had.by)
 
-  rest_gives : (f mid new : Fiber) (box : BoxName) (a : Came) (w : Wants Fiber) → f.idle ≡ false → mid ≡ record f { body = mid.body } → RoomyIn code.program mid.body.frames → f.body.count ≤ mid.body.count → mid.body.count ≤ limits.steps → mid.refused ≡ Some box →
-      ((set : Setting) → ServesCode set code → set.limits ≡ limits → (s : StandsIn set f) → CameTo code.program code.counted set f.task (course_of f) s.lone mid.body a) → RestsAt box a mid new w → Gives f new w
-  rest_gives f mid new box a w busy same roomy more most refused comes e =
-      refused_gives f mid.body busy roomy more most box a new w (sym (ap (λ (m : Fiber). m.refused) same) ∙ refused) comes (subst (λ (m : Fiber). RestsAt box a m new w) same e)
+  rest_gives : (f mid new : Fiber) (v : Waits) (a : Came) (w : Wants Fiber) → f.idle ≡ false → mid ≡ record f { body = mid.body } → RoomyIn code.program mid.body.frames → f.body.count ≤ mid.body.count → mid.body.count ≤ limits.steps → mid.refused ≡ Some v →
+      ((set : Setting) → ServesCode set code → set.limits ≡ limits → (s : StandsIn set f) → CameTo code.program code.counted set f.task (course_of f) s.lone mid.body a) → RestsAt v a mid new w → Gives f new w
+  rest_gives f mid new v a w busy same roomy more most refused comes e =
+      refused_gives f mid.body busy roomy more most v a new w (sym (ap (λ (m : Fiber). m.refused) same) ∙ refused) comes (subst (λ (m : Fiber). RestsAt v a m new w) same e)
 
   pub want_ok : (f mid new : Fiber) (a : Came) (r : Result (Wants Fiber) NoMemory) → f.idle ≡ false → mid ≡ record f { body = mid.body } → RoomyIn code.program mid.body.frames → f.body.count ≤ mid.body.count → mid.body.count ≤ limits.steps → mid.refused ≡ None →
       ((set : Setting) → ServesCode set code → set.limits ≡ limits → (s : StandsIn set f) → CameTo code.program code.counted set f.task (course_of f) s.lone mid.body a) → IfOk r (λ w. HasWanted code.program limits f.body.count a mid new w) → IfOk r (λ w. Gives f new w)
   want_ok f mid new a r busy same roomy more most none comes e =
       on_ok r (λ w. HasWanted code.program limits f.body.count a mid new w) (λ w. Gives f new w) (λ w x. came_gives f mid new a w busy same roomy more most none comes x) e
 
-  pub rest_ok : (f mid new : Fiber) (box : BoxName) (a : Came) (r : Result (Wants Fiber) NoMemory) → f.idle ≡ false → mid ≡ record f { body = mid.body } → RoomyIn code.program mid.body.frames → f.body.count ≤ mid.body.count → mid.body.count ≤ limits.steps → mid.refused ≡ Some box →
-      ((set : Setting) → ServesCode set code → set.limits ≡ limits → (s : StandsIn set f) → CameTo code.program code.counted set f.task (course_of f) s.lone mid.body a) → IfOk r (λ w. RestsAt box a mid new w) → IfOk r (λ w. Gives f new w)
-  rest_ok f mid new box a r busy same roomy more most refused comes e =
-      on_ok r (λ w. RestsAt box a mid new w) (λ w. Gives f new w) (λ w x. rest_gives f mid new box a w busy same roomy more most refused comes x) e
+  pub rest_ok : (f mid new : Fiber) (v : Waits) (a : Came) (r : Result (Wants Fiber) NoMemory) → f.idle ≡ false → mid ≡ record f { body = mid.body } → RoomyIn code.program mid.body.frames → f.body.count ≤ mid.body.count → mid.body.count ≤ limits.steps → mid.refused ≡ Some v →
+      ((set : Setting) → ServesCode set code → set.limits ≡ limits → (s : StandsIn set f) → CameTo code.program code.counted set f.task (course_of f) s.lone mid.body a) → IfOk r (λ w. RestsAt v a mid new w) → IfOk r (λ w. Gives f new w)
+  rest_ok f mid new v a r busy same roomy more most refused comes e =
+      on_ok r (λ w. RestsAt v a mid new w) (λ w. Gives f new w) (λ w x. rest_gives f mid new v a w busy same roomy more most refused comes x) e

@@ -11,6 +11,8 @@ use Rattle.kilim_run_state.specs.declared.value.Object.{Object}
 use Rattle.kilim_run_state.specs.declared.value.Token.{Token}
 use Rattle.kilim_run_journal.specs.declared.entry.Act.TheVariants as act
 use Rattle.kilim_run_model.specs.Course.{plain}
+use Rattle.kilim_run_model.specs.declared.waits.Waits.{Waits}
+use Rattle.kilim_run_model.specs.declared.waits.Waits.TheVariants as wait
 use Rattle.kilim_run_model.specs.declared.deed.Beginning.{Beginning}
 use Rattle.kilim_run_model.specs.declared.deed.Beginning.TheVariants.{Begun}
 use Rattle.kilim_run_model.specs.declared.deed.Deed.{Deed}
@@ -97,7 +99,7 @@ pub record Refused (W : Program) (old new : Fiber) (box : BoxName) : Type 0 wher
   pub course : course_of new ≡ course_of old
   pub stands : standing_at 0 new.body ≡ paused_at box (behind_at 0 old.body)
   pub roomy : RoomyIn W new.body.frames
-  pub refused : new.refused ≡ Some box
+  pub refused : new.refused ≡ Some (wait.Take box)
   pub some : 0 < old.body.count
 
 -- what comes of an answer to what was asked; other answers don't come
@@ -157,8 +159,8 @@ pub record EndsIdle (limits : Limits) (old new : Fiber) (w : Wants Fiber) : Type
   pub none : old.refused ≡ None
   pub most : old.body.count ≤ limits.steps
 
-pub record RestsAt (box : BoxName) (c : Came) (old new : Fiber) (w : Wants Fiber) : Type 0 where
-  pub rests : w ≡ wants.Rest (Some box)
+pub record RestsAt (v : Waits) (c : Came) (old new : Fiber) (w : Wants Fiber) : Type 0 where
+  pub rests : w ≡ wants.Rest (Some v)
   pub came-is : c ≡ came.Rests
   pub same : new ≡ record old { refused = None; rests = true }
 

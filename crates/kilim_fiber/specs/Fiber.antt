@@ -1,7 +1,6 @@
 -- When a fiber over records stands for the thread of its course.
 use Rattle.std.specs.Prelude.{◌≡◌, ◌<◌, ◌≤◌, ◌+◌, ◌^◌, ℕ, nat_le, if◌then◌else◌, Bool, true, false, List, Option, Some, None}
 use Rattle.kilim_program.specs.Program.{Program}
-use Rattle.kilim_program.specs.declared.names.BoxName.{BoxName}
 use Rattle.kilim_program.specs.declared.value.Value.TheVariants.{Null}
 use Rattle.kilim_run_state.specs.declared.cause.EndCause.{EndCause}
 use Rattle.kilim_run_state.specs.declared.cause.EndCause.TheVariants as cause
@@ -10,6 +9,7 @@ use Rattle.kilim_run_model.specs.State.{Setting}
 use Rattle.kilim_run_model.specs.Lone.{Lone}
 use Rattle.kilim_run_model.specs.Lone as thread
 use Rattle.kilim_run_model.specs.Course.{Course, plain, next_action, stands_at}
+use Rattle.kilim_run_model.specs.declared.waits.Waits.{Waits}
 use Rattle.kilim_run_model.specs.declared.waits.Waits.TheVariants as wait
 use Rattle.kilim_run_board.specs.fibers.Wishes.{Wish, ToPut, ToTake, ToProbe, ToStart, ToPrint, wish_of}
 use Rattle.kilim_fiber_laws.specs.woven_kin.Nexts.{counted, paused_at, taken_at, with_result}
@@ -63,8 +63,8 @@ pub record HoldsFiber (W : Program) (marks : List (List Bool)) (set : Setting) (
   pub roomy : RoomyIn W f.body.frames
   pub most : f.body.count ≤ set.limits.steps
   pub is-main : set.main ≡ f.main
-  -- where a take of it was just refused, it stands at a `get` of that mailbox, and not at its first instruction
-  pub refused : (box : BoxName) → f.refused ≡ Some box → (0 < f.body.count) × (stands_at set f.task last ≡ Some (wait.Take box))
+  -- where it was just refused, it stands where it may have to wait for that, and not at its first instruction
+  pub refused : (v : Waits) → f.refused ≡ Some v → (0 < f.body.count) × (stands_at set f.task last ≡ Some v)
 
 -- behind each answer that fits its wish it is a fiber of the further course
 abbrev pub CanGoOn : Program → List (List Bool) → Setting → ℕ → Course → Lone → Body → Option Wish → Type 0

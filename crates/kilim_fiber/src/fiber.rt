@@ -25,7 +25,7 @@ use kilim_fiber_body::{
 };
 use kilim_program::{BoxName, ClassId, Program};
 use kilim_run_board::fibers::{Answer, Wants};
-use kilim_run_model::Beginning;
+use kilim_run_model::{Beginning, Waits};
 use kilim_run_state::{EndCause, Limits, Shape};
 use kilim_run_trees::Tree;
 use kilim_units::{NoMemory, unmet};
@@ -56,8 +56,8 @@ pub struct Fiber {
     // its `execute` is built in
     idle: bool,
     asked: Asked,
-    // the mailbox of the take that was just answered nothing
-    refused: Option<BoxName>,
+    // what it waits for: its take was just answered nothing
+    refused: Option<Waits>,
     rests: bool,
 }
 
@@ -214,7 +214,7 @@ impl Fiber {
             return Err(unmet());
         }
         pause(self.alloc, &code.program, mailbox, &mut self.body);
-        self.refused = Some(mailbox);
+        self.refused = Some(Waits::Take(mailbox));
         Ok(())
     }
 
@@ -281,15 +281,15 @@ impl Fiber {
         }
     }
 
-    // It was refused a message: it rests at that mailbox, and comes to nothing else.
-    fn rest_at(&mut self, mailbox: BoxName, came: Came) -> Result<Wants<Fiber>, NoMemory>
-        ensures { IfOk result (λ w. RestsAt mailbox came self.old self.new w) }
+    // It was refused: it rests where it waits, and comes to nothing else.
+    fn rest_at(&mut self, waits: Waits, came: Came) -> Result<Wants<Fiber>, NoMemory>
+        ensures { IfOk result (λ w. RestsAt waits came self.old self.new w) }
     {
         match came {
             Came::Rests => {
                 self.refused = None;
                 self.rests = true;
-                Ok(Wants::Rest(Some(mailbox)))
+                Ok(Wants::Rest(Some(waits)))
             }
             // unmet: a fiber that pauses goes on pausing, or rests
             _ => Err(unmet()),
@@ -363,7 +363,7 @@ impl Fiber {
             return Err(NoMemory);
         };
         match self.refused {
-            Some(mailbox) => self.rest_at(mailbox, came),
+            Some(waits) => self.rest_at(waits, came),
             None => self.want(code, limits, before, came),
         }
     }

@@ -62,6 +62,8 @@ fn with_program<K: Woven>(wants: Wants<Fiber>) -> Wants<Named<K>>
 {
     match wants {
         Wants::Put(mailbox, tree, shape) => Wants::Put(mailbox, tree, shape),
+        Wants::PutWait(mailbox, tree, shape) => Wants::PutWait(mailbox, tree, shape),
+        Wants::Bound(mailbox, most) => Wants::Bound(mailbox, most),
         Wants::Take(mailbox) => Wants::Take(mailbox),
         Wants::Probe(mailbox) => Wants::Probe(mailbox),
         Wants::Start(fiber, shape) => Wants::Start(name_program::<K>(fiber), shape),

@@ -1,5 +1,5 @@
 -- Each call of the board keeps what it stands for.
-use Rattle.std.proofs.Common.{◌≡◌, ◌≢◌, ◌||◌, nat_lt, ℕ, suc, ◌+◌, ◌<◌, ◌≤◌, Bool, true, false, ◌&&◌, not, cond, ◌==◌, List, [], ◌∷◌, ◌++◌, Option, Some, None, refl, sym, ap, subst, ◌∙◌, ◌⊎◌, inl, inr, arith}
+use Rattle.std.proofs.Common.{◌≡◌, ◌≢◌, ◌||◌, nat_lt, ℕ, zero, suc, ◌+◌, ◌<◌, ◌≤◌, Bool, true, false, ◌&&◌, not, cond, ◌==◌, List, [], ◌∷◌, ◌++◌, Option, Some, None, refl, sym, ap, subst, ◌∙◌, ◌⊎◌, inl, inr, arith}
 use Rattle.std.proofs.lemmas.List.Sorted.{IsPermutation-sym, IsPermutation-cons}
 use Rattle.std.specs.Prelude.{if◌then◌else◌, length, slice_get, slice_set, is_some, count_by, IsPermutation}
 use Rattle.std.specs.List.{AllByRecursion}
@@ -9,21 +9,21 @@ use Rattle.kilim_program.specs.declared.names.BoxName.{BoxName}
 use Rattle.kilim_run_state.specs.declared.value.Token.{Token}
 use Rattle.kilim_run_journal.specs.declared.entry.Act.TheVariants.{Put, Start}
 use Rattle.kilim_program.specs.Names.{◌>>=◌}
-use Rattle.kilim_run_model.specs.State.{Setting, is_full, is_full_at, same_box, with_mailbox, with_message, with_queue}
+use Rattle.kilim_run_model.specs.State.{Setting, bounded, is_full, is_full_at, same_box, with_mailbox, with_message, with_queue}
 use Rattle.kilim_run_model.specs.declared.waits.Waits.{Waits}
 use Rattle.kilim_run_model.specs.declared.waits.Waits.TheVariants as wait
 use Rattle.kilim_run_model.specs.Turn.{task_limit}
 use Rattle.kilim_run_model.specs.Runs.{wait_entry, where_empty}
 use Rattle.kilim_run_board.specs.Places.{Ready, Lent, Parked, Place, is_task, is_at, is_parked_at, is_astray, is_out, Stood}
-use Rattle.kilim_run_board.specs.Board.{Board, lent_of, ready_of, parked_of, places_of, alive_course, is_alive, lone_stands, stands_in, may_wait, due_in, HoldsQueue, HoldsPost, IsOwn, BoardStands, parked_box, closing, Parks, GivesBack}
+use Rattle.kilim_run_board.specs.Board.{Board, lent_of, ready_of, parked_of, places_of, alive_course, is_alive, lone_stands, stands_in, may_wait, due_in, HoldsQueue, HoldsPost, IsOwn, BoardStands, box_of, parked_box, closing, Parks, GivesBack}
 use Rattle.kilim_run_board.specs.waiting.Parked.{woken, ready_after, parked_after}
-use Rattle.kilim_run_board.specs.waiting.Mailboxes.{SameMails, Tree, Post, Mail}
+use Rattle.kilim_run_board.specs.waiting.Mailboxes.{SameMails, Tree, Post, Mail, has_to_wait}
 use Rattle.kilim_run_board.specs.Seen.{GiveAnswers, gives_at}
 use Rattle.kilim_run_board.specs.declared.waiting.parked.Waiter.{Waiter}
 use Rattle.kilim_run_board.specs.waiting.Parked.{StandsBehind}
 use Rattle.kilim_run_board.proofs.Places.{front, stood_shuffled, only_there, is_alive as front_alive, lent, given_back, parked, acts, alone, wakes, Changes, ended, comes, less_due, unseen, at_rest, one_place, front_no}
-use Rattle.kilim_run_board.proofs.Dues.{put_changes, take_changes}
-use Rattle.kilim_run_board.proofs.waiting.Names.{both_ways, same_name}
+use Rattle.kilim_run_board.proofs.Dues.{put_changes, take_changes, bound_leaves, no_room_full}
+use Rattle.kilim_run_board.proofs.waiting.Names.{both_ways, one_wait}
 use Rattle.kilim_lemmas.proofs.Lists.{set_there, set_length, get_front, get_last}
 use Rattle.kilim_run_board.proofs.waiting.Lists.{get_set_other, get_past, got_within, length_pushed}
 use Rattle.kilim_run_board.proofs.Replays.{some_injective, ends_pushed, not_full, replay_on, replay_started}
@@ -61,13 +61,13 @@ get_of_wish Stands w e = absurd (cc)
 
 -- ---- what a fiber is given back as
 
-pub gives_parked : {F : Type 0} (b b' : Board F) (seat : ℕ) (f : F) (w : Option BoxName) (box : BoxName) → w ≡ Some box → (length (b.mails box).queue == 0) ≡ true → Parks b seat b' f box → GiveAnswers b seat b' f w
-gives_parked b b' seat f w box is empty parks = subst (λ x. GiveAnswers b seat b' f x) (sym is) (subst (λ y. gives_at y b seat b' f box) (sym empty) parks)
+pub gives_parked : {F : Type 0} (b b' : Board F) (seat : ℕ) (f : F) (w : Option Waits) (v : Waits) → w ≡ Some v → has_to_wait b.mails v ≡ true → Parks b seat b' f v → GiveAnswers b seat b' f w
+gives_parked b b' seat f w v is has parks = subst (λ x. GiveAnswers b seat b' f x) (sym is) (subst (λ y. gives_at y b seat b' f v) (sym has) parks)
 
-pub gives_ready : {F : Type 0} (b b' : Board F) (seat : ℕ) (f : F) (w : Option BoxName) (box : BoxName) → w ≡ Some box → (length (b.mails box).queue == 0) ≡ false → GivesBack b seat b' f → GiveAnswers b seat b' f w
-gives_ready b b' seat f w box is some gives = subst (λ x. GiveAnswers b seat b' f x) (sym is) (subst (λ y. gives_at y b seat b' f box) (sym some) gives)
+pub gives_ready : {F : Type 0} (b b' : Board F) (seat : ℕ) (f : F) (w : Option Waits) (v : Waits) → w ≡ Some v → has_to_wait b.mails v ≡ false → GivesBack b seat b' f → GiveAnswers b seat b' f w
+gives_ready b b' seat f w v is has gives = subst (λ x. GiveAnswers b seat b' f x) (sym is) (subst (λ y. gives_at y b seat b' f v) (sym has) gives)
 
-pub gives_none : {F : Type 0} (b b' : Board F) (seat : ℕ) (f : F) (w : Option BoxName) → w ≡ None → GivesBack b seat b' f → GiveAnswers b seat b' f w
+pub gives_none : {F : Type 0} (b b' : Board F) (seat : ℕ) (f : F) (w : Option Waits) → w ≡ None → GivesBack b seat b' f → GiveAnswers b seat b' f w
 gives_none b b' seat f w is gives = subst (λ x. GiveAnswers b seat b' f x) (sym is) gives
 
 -- ---- lists
@@ -108,11 +108,6 @@ none_lent : (w : Waits) (cells : List (Option ℕ)) → count_by (is_parked_at w
 none_lent w [] = refl
 none_lent w (None ∷ cs) = none_lent w cs
 none_lent w (Some t ∷ cs) = front_no (is_parked_at w) (record { spot = Lent; task = t }) (lent_of cs) refl ∙ none_lent w cs
-
--- nobody is parked to put
-none_putting : {F : Type 0} (task : F → ℕ) (box : BoxName) (ws : List (Waiter F)) → count_by (is_parked_at (wait.Put box)) (parked_of task ws) ≡ 0
-none_putting task box [] = refl
-none_putting task box (w ∷ ws) = front_no (is_parked_at (wait.Put box)) (record { spot = Parked (wait.Take w.mailbox); task = task w.fiber }) (parked_of task ws) refl ∙ none_putting task box ws
 
 nobody_there : {F : Type 0} (task : F → ℕ) (w : Waits) (ready : List F) (cells : List (Option ℕ)) (ws : List (Waiter F)) → count_by (is_parked_at w) (parked_of task ws) ≡ 0 → count_by (is_parked_at w) (places_of task ready cells ws) ≡ 0
 nobody_there task w ready cells ws none =
@@ -217,7 +212,7 @@ module _ {F : Type 0} (task : F → ℕ) (course : F → Course) (holds : Settin
       (ws : List (Waiter F)) → count_by (is_task t) (parked_of task ws) ≡ 0 → AllByRecursion (λ (w : Waiter F). Own courses w.fiber) ws → AllByRecursion (λ (w : Waiter F). Own courses' w.fiber) ws
   parked_own t courses courses' kept [] none all = tt
   parked_own t courses courses' kept (w ∷ ws) none all =
-      let e : count_by (is_task t) (parked_of task (w ∷ ws)) ≡ bit (task w.fiber == t) + count_by (is_task t) (parked_of task ws) = front (is_task t) (record { spot = Parked (wait.Take w.mailbox); task = task w.fiber }) (parked_of task ws) in
+      let e : count_by (is_task t) (parked_of task (w ∷ ws)) ≡ bit (task w.fiber == t) + count_by (is_task t) (parked_of task ws) = front (is_task t) (record { spot = Parked w.waits; task = task w.fiber }) (parked_of task ws) in
       (others_own t courses courses' kept w.fiber (bit_none (task w.fiber == t) (omega arith)) all.0, parked_own t courses courses' kept ws (omega arith) all.1)
 
   module _ (b : Board F) (st : Stand b) (seat t : ℕ) (is-lent : slice_get b.cells seat ≡ Some (Some t)) where
@@ -271,9 +266,9 @@ module _ {F : Type 0} (task : F → ℕ) (course : F → Course) (holds : Settin
     }
 
     -- the lent fiber is parked
-    pub back_parked : (f : F) (box : BoxName) (parked' : List (Waiter F)) → StandsBehind (record { mailbox = box; fiber = f }) b.parked parked' → task f ≡ t → Own st.state.books.courses f → is_at (stands t) (wait.Take box) ≡ true → due (wait.Take box) ≡ 0 →
+    pub back_parked : (f : F) (v : Waits) (parked' : List (Waiter F)) → StandsBehind (record { waits = v; fiber = f }) b.parked parked' → task f ≡ t → Own st.state.books.courses f → is_at (stands t) v ≡ true → may v ≡ true → due v ≡ 0 →
         Stand (without_cell b seat b.ready parked')
-    back_parked f box parked' behind same own at-it empty = record {
+    back_parked f v parked' behind same own at-it can nothing = record {
       state = st.state;
       replay = st.replay;
       tasks = st.tasks;
@@ -281,11 +276,11 @@ module _ {F : Type 0} (task : F → ℕ) (course : F → Course) (holds : Settin
       there = st.there;
       alive = st.alive;
       found = st.found;
-      stood = stood_shuffled st.there stands may due (record { spot = Parked (wait.Take box); task = task f } ∷ others) (places_of task b.ready cells parked')
-          (at_mailbox task b.ready cells b.parked parked' (record { mailbox = box; fiber = f }) behind)
-          (subst (λ u. Stood st.there stands may due (record { spot = Parked (wait.Take box); task = u } ∷ others)) (sym same) (parked st.there stands may due t (wait.Take box) others at-it refl empty lent_front));
+      stood = stood_shuffled st.there stands may due (record { spot = Parked v; task = task f } ∷ others) (places_of task b.ready cells parked')
+          (at_mailbox task b.ready cells b.parked parked' (record { waits = v; fiber = f }) behind)
+          (subst (λ u. Stood st.there stands may due (record { spot = Parked v; task = u } ∷ others)) (sym same) (parked st.there stands may due t v others at-it can nothing lent_front));
       ready = st.ready;
-      parked = all_behind (λ (w : Waiter F). Own st.state.books.courses w.fiber) (record { mailbox = box; fiber = f }) b.parked parked' behind st.parked own;
+      parked = all_behind (λ (w : Waiter F). Own st.state.books.courses w.fiber) (record { waits = v; fiber = f }) b.parked parked' behind st.parked own;
     }
 
     -- the task is in no place any more, and the board is stopped
@@ -390,14 +385,66 @@ module _ {F : Type 0} (task : F → ℕ) (course : F → Course) (holds : Settin
           noted_by st.state.books.mailboxes b.mails
           (acts st.there stands may due (stands_in set lones') may due t stands_kept others (λ w e. e) (λ w. inl (let e : bit (is_at (stands t) w) ≡ 0 = ap bit (away w) in omega arith)) lent_front)
 
+      -- ---- an act behind which the first that waits for something is ready
+
+      module _ (v : Waits) (posts' : BoxName → Post) (mails' : BoxName → Mail) (changes : Changes may (may_wait posts') due (due_in b.stopped posts') (stands t) v) (going : is_end d.act ≡ false)
+          (goes : books_after st.state.books (record { task = t; act = d.act }) ≡ Some (record { courses = courses'; mailboxes = posts' })) (held : (x : BoxName) → HoldsPost set.program (mails' x) (posts' x)) where
+        abbrev act_board : List F → List (Waiter F) → Board F
+        act_board ready ws = record { journal = b.journal ++ record { task = t; act = d.act } ∷ []; tasks = b.tasks; ready = ready; parked = ws; cells = b.cells; mails = mails'; stopped = b.stopped }
+
+        act_rest : (ready : List F) (ws : List (Waiter F)) → Stood st.there (stands_in set lones') (may_wait posts') (due_in b.stopped posts') (places_of task ready b.cells ws) →
+            AllByRecursion (Own courses') ready → AllByRecursion (λ (w : Waiter F). Own courses' w.fiber) ws → Stand (act_board ready ws)
+        act_rest ready ws stood ready-own parked-own = record {
+          state = record { books = record { courses = courses'; mailboxes = posts' }; lones = lones' };
+          replay = replay_on set b.journal st.state st.replay t c l last d there-c there-l done (record { task = t; act = d.act }) posts' (not_full set st.state.books t d.act going) goes;
+          tasks = st.tasks ∙ sym (set_length st.state.books.courses t (further c d));
+          mails = held;
+          there = st.there;
+          alive = going_alive going posts';
+          found = λ running. going_found running posts';
+          stood = stood;
+          ready = ready-own;
+          parked = parked-own;
+        }
+
+        act_alone : woken v b.parked ≡ None → Stand (act_board b.ready b.parked)
+        act_alone nobody =
+            act_rest b.ready b.parked
+            (stood_shuffled st.there (stands_in set lones') (may_wait posts') (due_in b.stopped posts') (record { spot = Lent; task = t } ∷ others) (places_of task b.ready b.cells b.parked) (seat_back b.ready b.parked)
+            (alone st.there stands may due (stands_in set lones') (may_wait posts') (due_in b.stopped posts') t stands_kept v changes.leaves others (nobody_there task v b.ready cells b.parked (nobody_waits task v b.parked nobody)) lent_front))
+            ready_kept parked_kept
+
+        act_wakes : (found : Waiter F × List (Waiter F)) → woken v b.parked ≡ Some found → Stand (act_board (b.ready ++ found.0.fiber ∷ []) found.1)
+        act_wakes found is =
+            let w : IsWoken task v b.parked found = woken_is task v b.parked found is in
+            let name : v ≡ found.0.waits = one_wait v found.0.waits w.at in
+            let own = woken_all task (λ (w : Waiter F). Own courses' w.fiber) v b.parked found is parked_kept in
+            let before : Stood st.there stands may due (record { spot = Lent; task = t } ∷ record { spot = Parked found.0.waits; task = task found.0.fiber } ∷ places_of task b.ready cells found.1) =
+            stood_shuffled st.there stands may due (record { spot = Lent; task = t } ∷ others) (record { spot = Lent; task = t } ∷ record { spot = Parked found.0.waits; task = task found.0.fiber } ∷ places_of task b.ready cells found.1)
+            (IsPermutation-cons (record { spot = Lent; task = t }) others (record { spot = Parked found.0.waits; task = task found.0.fiber } ∷ places_of task b.ready cells found.1) (at_the_front task b.ready cells v b.parked found w)) lent_front in
+            let there-too : Changes may (may_wait posts') due (due_in b.stopped posts') (stands t) found.0.waits = subst (λ x. Changes may (may_wait posts') due (due_in b.stopped posts') (stands t) x) name changes in
+            let after : Stood st.there (stands_in set lones') (may_wait posts') (due_in b.stopped posts') (record { spot = Lent; task = t } ∷ record { spot = Ready; task = task found.0.fiber } ∷ places_of task b.ready cells found.1) =
+            wakes st.there stands may due (stands_in set lones') (may_wait posts') (due_in b.stopped posts') t stands_kept found.0.waits there-too (task found.0.fiber) (places_of task b.ready cells found.1) before in
+            act_rest (b.ready ++ found.0.fiber ∷ []) found.1
+            (stood_shuffled st.there (stands_in set lones') (may_wait posts') (due_in b.stopped posts') (record { spot = Lent; task = t } ∷ places_of task (b.ready ++ found.0.fiber ∷ []) cells found.1) (places_of task (b.ready ++ found.0.fiber ∷ []) b.cells found.1) (seat_back (b.ready ++ found.0.fiber ∷ []) found.1)
+            (stood_shuffled st.there (stands_in set lones') (may_wait posts') (due_in b.stopped posts') (record { spot = Lent; task = t } ∷ record { spot = Ready; task = task found.0.fiber } ∷ places_of task b.ready cells found.1) (record { spot = Lent; task = t } ∷ places_of task (b.ready ++ found.0.fiber ∷ []) cells found.1)
+            (IsPermutation-cons (record { spot = Lent; task = t }) (record { spot = Ready; task = task found.0.fiber } ∷ places_of task b.ready cells found.1) (places_of task (b.ready ++ found.0.fiber ∷ []) cells found.1) (at_the_back task b.ready cells found.1 found.0.fiber)) after))
+            (all_pushed (Own courses') b.ready found.0.fiber ready_kept own.0) own.1
+
+        act_stands : Stand (act_board (ready_after b.ready (woken v b.parked)) (parked_after b.parked (woken v b.parked)))
+        act_stands = act_by (woken v b.parked) refl
+          where
+            act_by : (o : Option (Waiter F × List (Waiter F))) → woken v b.parked ≡ o → Stand (act_board (ready_after b.ready o) (parked_after b.parked o))
+            act_by None e = act_alone e
+            act_by (Some found) e = act_wakes found e
+
       -- a take
-      pub taken_board : (box : BoxName) (mails : BoxName → Mail) (first : ℕ × List Token) (queue : List (ℕ × List Token)) → (stands t ≡ None) ⊎ (stands t ≡ Some (wait.Take box)) → (st.state.books.mailboxes box).queue ≡ first ∷ queue →
-          WithNote (with_mailbox st.state.books.mailboxes box (with_queue (st.state.books.mailboxes box) queue)) mails
-      taken_board box mails first queue at some =
-          let posts : BoxName → Post = with_mailbox st.state.books.mailboxes box (with_queue (st.state.books.mailboxes box) queue) in
-          noted_by posts mails
-          (alone st.there stands may due (stands_in set lones') (may_wait posts) (due_in b.stopped posts) t stands_kept (wait.Put box) (take_changes b.stopped st.state.books.mailboxes box first queue (stands t) at some).leaves others
-          (nobody_there task (wait.Put box) b.ready cells b.parked (none_putting task box b.parked)) lent_front)
+      pub taken_stands : (box : BoxName) (mails : BoxName → Mail) (first : ℕ × List Token) (queue : List (ℕ × List Token)) → (stands t ≡ None) ⊎ (stands t ≡ Some (wait.Take box)) → (st.state.books.mailboxes box).queue ≡ first ∷ queue → is_end d.act ≡ false →
+          books_after st.state.books (record { task = t; act = d.act }) ≡ Some (record { courses = courses'; mailboxes = with_mailbox st.state.books.mailboxes box (with_queue (st.state.books.mailboxes box) queue) }) →
+          ((x : BoxName) → HoldsPost set.program (mails x) (with_mailbox st.state.books.mailboxes box (with_queue (st.state.books.mailboxes box) queue) x)) →
+          Stand (record { journal = b.journal ++ record { task = t; act = d.act } ∷ []; tasks = b.tasks; ready = ready_after b.ready (woken (wait.Put box) b.parked); parked = parked_after b.parked (woken (wait.Put box) b.parked); cells = b.cells; mails = mails; stopped = b.stopped })
+      taken_stands box mails first queue at some going goes held =
+          act_stands (wait.Put box) (with_mailbox st.state.books.mailboxes box (with_queue (st.state.books.mailboxes box) queue)) mails (take_changes b.stopped st.state.books.mailboxes box first queue (stands t) at some) going goes held
 
       -- ---- a put
 
@@ -406,11 +453,11 @@ module _ {F : Type 0} (task : F → ℕ) (course : F → Course) (holds : Settin
         abbrev post' : Post
         post' = with_message (st.state.books.mailboxes box) shape
 
-        abbrev posts' : BoxName → Post
-        posts' = with_mailbox st.state.books.mailboxes box post'
+        abbrev put_posts : BoxName → Post
+        put_posts = with_mailbox st.state.books.mailboxes box post'
 
-        abbrev mails' : BoxName → Mail
-        mails' = with_mailbox b.mails box (with_message (b.mails box) tree)
+        abbrev put_mails : BoxName → Mail
+        put_mails = with_mailbox b.mails box (with_message (b.mails box) tree)
 
         has_room : is_full (st.state.books.mailboxes box) ≡ false
         has_room = sym (full_alike set.program (b.mails box) (st.state.books.mailboxes box) (st.mails box)) ∙ free
@@ -418,71 +465,41 @@ module _ {F : Type 0} (task : F → ℕ) (course : F → Course) (holds : Settin
         put_going : is_end d.act ≡ false
         put_going = ap (λ (x : Deed). is_end x.act) is-put
 
-        put_books : books_after st.state.books (record { task = t; act = d.act }) ≡ Some (record { courses = courses'; mailboxes = posts' })
+        put_books : books_after st.state.books (record { task = t; act = d.act }) ≡ Some (record { courses = courses'; mailboxes = put_posts })
         put_books =
             let same : (b.mails box).puts ≡ (st.state.books.mailboxes box).puts = (st.mails box).puts in
             let counted : ((b.mails box).puts == (st.state.books.mailboxes box).puts) ≡ true = grind (arith, nat_tests) in
             let yes-it-is : ((b.mails box).puts == (st.state.books.mailboxes box).puts && not (is_full (st.state.books.mailboxes box))) ≡ true = ap (λ y. y && not (is_full (st.state.books.mailboxes box))) counted ∙ ap not has_room in
             ap (λ (x : Deed). books_after st.state.books (record { task = t; act = x.act })) is-put
             ∙ (ap (λ o. o >>= λ (x : Course). books_by st.state.books t x (Put box (b.mails box).puts shape)) there-c
-            ∙ (ap (λ y. if y then Some (record { courses = slice_set st.state.books.courses t (further c (plain (Put box (b.mails box).puts shape))); mailboxes = posts' }) else None) yes-it-is
-            ∙ ap (λ x. Some (record { courses = slice_set st.state.books.courses t (further c x); mailboxes = posts' })) (sym is-put)))
+            ∙ (ap (λ y. if y then Some (record { courses = slice_set st.state.books.courses t (further c (plain (Put box (b.mails box).puts shape))); mailboxes = put_posts }) else None) yes-it-is
+            ∙ ap (λ x. Some (record { courses = slice_set st.state.books.courses t (further c x); mailboxes = put_posts })) (sym is-put)))
 
-        put_held : (x : BoxName) → HoldsPost set.program (mails' x) (posts' x)
+        put_held : (x : BoxName) → HoldsPost set.program (put_mails x) (put_posts x)
         put_held = holds_with set.program b.mails st.state.books.mailboxes box (with_message (b.mails box) tree) post' st.mails
             (record { most = (st.mails box).most; puts = ap (λ n. n + 1) (st.mails box).puts; queue = queue_pushed set.program (b.mails box).queue (st.state.books.mailboxes box).queue ((b.mails box).puts, tree) ((st.state.books.mailboxes box).puts, shape) (st.mails box).queue (st.mails box).puts message })
 
-        abbrev put_board : List F → List (Waiter F) → Board F
-        put_board ready ws = record { journal = b.journal ++ record { task = t; act = d.act } ∷ []; tasks = b.tasks; ready = ready; parked = ws; cells = b.cells; mails = mails'; stopped = b.stopped }
+        pub put_stands : Stand (record { journal = b.journal ++ record { task = t; act = d.act } ∷ []; tasks = b.tasks; ready = ready_after b.ready (woken (wait.Take box) b.parked); parked = parked_after b.parked (woken (wait.Take box) b.parked); cells = b.cells; mails = put_mails; stopped = b.stopped })
+        put_stands = act_stands (wait.Take box) put_posts put_mails (put_changes b.stopped st.state.books.mailboxes box shape (stands t) at has_room) put_going put_books put_held
 
-        put_rest : (ready : List F) (ws : List (Waiter F)) → Stood st.there (stands_in set lones') (may_wait posts') (due_in b.stopped posts') (places_of task ready b.cells ws) →
-            AllByRecursion (Own courses') ready → AllByRecursion (λ (w : Waiter F). Own courses' w.fiber) ws → Stand (put_board ready ws)
-        put_rest ready ws stood ready-own parked-own = record {
-          state = record { books = record { courses = courses'; mailboxes = posts' }; lones = lones' };
-          replay = replay_on set b.journal st.state st.replay t c l last d there-c there-l done (record { task = t; act = d.act }) posts' (not_full set st.state.books t d.act put_going) put_books;
-          tasks = st.tasks ∙ sym (set_length st.state.books.courses t (further c d));
-          mails = put_held;
-          there = st.there;
-          alive = going_alive put_going posts';
-          found = λ running. going_found running posts';
-          stood = stood;
-          ready = ready-own;
-          parked = parked-own;
-        }
+      -- ---- a bound
 
-        changes : Changes may (may_wait posts') due (due_in b.stopped posts') (stands t) (wait.Take box)
-        changes = put_changes b.stopped st.state.books.mailboxes box shape (stands t) at has_room
+      -- nobody waits to put where there is none yet
+      nobody_puts : (box : BoxName) → (st.state.books.mailboxes box).most ≡ None → count_by (is_parked_at (wait.Put box)) others ≡ 0
+      nobody_puts box none = by_count (count_by (is_parked_at (wait.Put box)) others) refl
+        where
+          by_count : (n : ℕ) → count_by (is_parked_at (wait.Put box)) others ≡ n → count_by (is_parked_at (wait.Put box)) others ≡ 0
+          by_count zero e = e
+          by_count (suc n) e = absurd (
+              let f = front_no (is_parked_at (wait.Put box)) (record { spot = Lent; task = t }) others refl in
+              let m : may (wait.Put box) ≡ true = lent_front.held (wait.Put box) (omega arith) in
+              let h : false ≡ true = sym (ap is_some none) ∙ m in cc)
 
-        put_alone : woken box b.parked ≡ None → Stand (put_board b.ready b.parked)
-        put_alone nobody =
-            put_rest b.ready b.parked
-            (stood_shuffled st.there (stands_in set lones') (may_wait posts') (due_in b.stopped posts') (record { spot = Lent; task = t } ∷ others) (places_of task b.ready b.cells b.parked) (seat_back b.ready b.parked)
-            (alone st.there stands may due (stands_in set lones') (may_wait posts') (due_in b.stopped posts') t stands_kept (wait.Take box) changes.leaves others (nobody_there task (wait.Take box) b.ready cells b.parked (nobody_waits task box b.parked nobody)) lent_front))
-            ready_kept parked_kept
-
-        put_wakes : (found : Waiter F × List (Waiter F)) → woken box b.parked ≡ Some found → Stand (put_board (b.ready ++ found.0.fiber ∷ []) found.1)
-        put_wakes found is =
-            let w : IsWoken task box b.parked found = woken_is task box b.parked found is in
-            let name : box ≡ found.0.mailbox = same_name box found.0.mailbox w.at in
-            let own = woken_all task (λ (w : Waiter F). Own courses' w.fiber) box b.parked found is parked_kept in
-            let before : Stood st.there stands may due (record { spot = Lent; task = t } ∷ record { spot = Parked (wait.Take found.0.mailbox); task = task found.0.fiber } ∷ places_of task b.ready cells found.1) =
-            stood_shuffled st.there stands may due (record { spot = Lent; task = t } ∷ others) (record { spot = Lent; task = t } ∷ record { spot = Parked (wait.Take found.0.mailbox); task = task found.0.fiber } ∷ places_of task b.ready cells found.1)
-            (IsPermutation-cons (record { spot = Lent; task = t }) others (record { spot = Parked (wait.Take found.0.mailbox); task = task found.0.fiber } ∷ places_of task b.ready cells found.1) (at_the_front task b.ready cells box b.parked found w)) lent_front in
-            let there-too : Changes may (may_wait posts') due (due_in b.stopped posts') (stands t) (wait.Take found.0.mailbox) = subst (λ x. Changes may (may_wait posts') due (due_in b.stopped posts') (stands t) (wait.Take x)) name changes in
-            let after : Stood st.there (stands_in set lones') (may_wait posts') (due_in b.stopped posts') (record { spot = Lent; task = t } ∷ record { spot = Ready; task = task found.0.fiber } ∷ places_of task b.ready cells found.1) =
-            wakes st.there stands may due (stands_in set lones') (may_wait posts') (due_in b.stopped posts') t stands_kept (wait.Take found.0.mailbox) there-too (task found.0.fiber) (places_of task b.ready cells found.1) before in
-            put_rest (b.ready ++ found.0.fiber ∷ []) found.1
-            (stood_shuffled st.there (stands_in set lones') (may_wait posts') (due_in b.stopped posts') (record { spot = Lent; task = t } ∷ places_of task (b.ready ++ found.0.fiber ∷ []) cells found.1) (places_of task (b.ready ++ found.0.fiber ∷ []) b.cells found.1) (seat_back (b.ready ++ found.0.fiber ∷ []) found.1)
-            (stood_shuffled st.there (stands_in set lones') (may_wait posts') (due_in b.stopped posts') (record { spot = Lent; task = t } ∷ record { spot = Ready; task = task found.0.fiber } ∷ places_of task b.ready cells found.1) (record { spot = Lent; task = t } ∷ places_of task (b.ready ++ found.0.fiber ∷ []) cells found.1)
-            (IsPermutation-cons (record { spot = Lent; task = t }) (record { spot = Ready; task = task found.0.fiber } ∷ places_of task b.ready cells found.1) (places_of task (b.ready ++ found.0.fiber ∷ []) cells found.1) (at_the_back task b.ready cells found.1 found.0.fiber)) after))
-            (all_pushed (Own courses') b.ready found.0.fiber ready_kept own.0) own.1
-
-        pub put_stands : Stand (put_board (ready_after b.ready (woken box b.parked)) (parked_after b.parked (woken box b.parked)))
-        put_stands = put_by (woken box b.parked) refl
-          where
-            put_by : (o : Option (Waiter F × List (Waiter F))) → woken box b.parked ≡ o → Stand (put_board (ready_after b.ready o) (parked_after b.parked o))
-            put_by None e = put_alone e
-            put_by (Some found) e = put_wakes found e
+      pub bounded_board : (box : BoxName) (most : ℕ) (mails : BoxName → Mail) → stands t ≡ None → (st.state.books.mailboxes box).most ≡ None → WithNote (with_mailbox st.state.books.mailboxes box (bounded (st.state.books.mailboxes box) most)) mails
+      bounded_board box most mails away none =
+          let posts : BoxName → Post = with_mailbox st.state.books.mailboxes box (bounded (st.state.books.mailboxes box) most) in
+          noted_by posts mails
+          (alone st.there stands may due (stands_in set lones') (may_wait posts) (due_in b.stopped posts) t stands_kept (wait.Put box) (bound_leaves b.stopped st.state.books.mailboxes box most (stands t) away) others (nobody_puts box none) lent_front)
 
       -- ---- an end
 
@@ -660,35 +677,33 @@ module _ {F : Type 0} (task : F → ℕ) (course : F → Course) (holds : Settin
 
   -- ---- at rest
 
-  parked_of_all : (t : ℕ) (ws : List (Waiter F)) → 0 < count_by (is_task t) (parked_of task ws) → (box : BoxName) × (parked_box task ws t ≡ Some box)
-  parked_of_all t [] some = absurd (omega arith)
-  parked_of_all t (w ∷ ws) some = elim (both_ways (task w.fiber == t)) [
-    | inl is ↦ (w.mailbox, ap (λ y. if y then Some w.mailbox else parked_box task ws t) is)
-    | inr isnt ↦
-        let f = front_no (is_task t) (record { spot = Parked (wait.Take w.mailbox); task = task w.fiber }) (parked_of task ws) isnt in
-        let h : (box : BoxName) × (parked_box task ws t ≡ Some box) = parked_of_all t ws (omega arith) in
-        (h.0, ap (λ y. if y then Some w.mailbox else parked_box task ws t) isnt ∙ h.1)
-  ]
+  -- where a task is parked it stands
+  parked_there : (stands : ℕ → Option Waits) (t : ℕ) (ws : List (Waiter F)) → 0 < count_by (is_task t) (parked_of task ws) → count_by (is_astray stands) (parked_of task ws) ≡ 0 → (v : Waits) × (parked_box task ws t ≡ Some (box_of v)) × (is_at (stands t) v ≡ true)
+  parked_there stands t [] some none = absurd (omega arith)
+  parked_there stands t (w ∷ ws) some none =
+      let g : count_by (is_astray stands) (parked_of task (w ∷ ws)) ≡ bit (not (is_at (stands (task w.fiber)) w.waits)) + count_by (is_astray stands) (parked_of task ws) = front (is_astray stands) (record { spot = Parked w.waits; task = task w.fiber }) (parked_of task ws) in
+      elim (both_ways (task w.fiber == t)) [
+        | inl is ↦
+            let same : task w.fiber ≡ t = grind (arith, nat_tests) in
+            let right : not (is_at (stands (task w.fiber)) w.waits) ≡ false = bit_none (not (is_at (stands (task w.fiber)) w.waits)) (omega arith) in
+            (w.waits, ap (λ y. if y then Some (box_of w.waits) else parked_box task ws t) is, subst (λ u. is_at (stands u) w.waits ≡ true) same (not_false (is_at (stands (task w.fiber)) w.waits) right))
+        | inr isnt ↦
+            let f = front_no (is_task t) (record { spot = Parked w.waits; task = task w.fiber }) (parked_of task ws) isnt in
+            let h : (v : Waits) × (parked_box task ws t ≡ Some (box_of v)) × (is_at (stands t) v ≡ true) = parked_there stands t ws (omega arith) (omega arith) in
+            (h.0, ap (λ y. if y then Some (box_of w.waits) else parked_box task ws t) isnt ∙ h.1, h.2)
+      ]
 
   not_parked_box : (t : ℕ) (ws : List (Waiter F)) → count_by (is_task t) (parked_of task ws) ≡ 0 → parked_box task ws t ≡ None
   not_parked_box t [] none = refl
   not_parked_box t (w ∷ ws) none =
-      let e : count_by (is_task t) (parked_of task (w ∷ ws)) ≡ bit (task w.fiber == t) + count_by (is_task t) (parked_of task ws) = front (is_task t) (record { spot = Parked (wait.Take w.mailbox); task = task w.fiber }) (parked_of task ws) in
+      let e : count_by (is_task t) (parked_of task (w ∷ ws)) ≡ bit (task w.fiber == t) + count_by (is_task t) (parked_of task ws) = front (is_task t) (record { spot = Parked w.waits; task = task w.fiber }) (parked_of task ws) in
       let isnt : (task w.fiber == t) ≡ false = bit_none (task w.fiber == t) (omega arith) in
-      ap (λ y. if y then Some w.mailbox else parked_box task ws t) isnt ∙ not_parked_box t ws (omega arith)
+      ap (λ y. if y then Some (box_of w.waits) else parked_box task ws t) isnt ∙ not_parked_box t ws (omega arith)
 
-  parked_rightly : (stands : ℕ → Option Waits) (t : ℕ) (box : BoxName) (ws : List (Waiter F)) → count_by (is_astray stands) (parked_of task ws) ≡ 0 → parked_box task ws t ≡ Some box → is_at (stands t) (wait.Take box) ≡ true
-  parked_rightly stands t box [] none e = absurd (cc)
-  parked_rightly stands t box (w ∷ ws) none e =
-      let f : count_by (is_astray stands) (parked_of task (w ∷ ws)) ≡ bit (not (is_at (stands (task w.fiber)) (wait.Take w.mailbox))) + count_by (is_astray stands) (parked_of task ws) = front (is_astray stands) (record { spot = Parked (wait.Take w.mailbox); task = task w.fiber }) (parked_of task ws) in
-      elim (both_ways (task w.fiber == t)) [
-        | inl is ↦
-            let same : task w.fiber ≡ t = grind (arith, nat_tests) in
-            let name : w.mailbox ≡ box = some_injective w.mailbox box (sym (ap (λ y. if y then Some w.mailbox else parked_box task ws t) is) ∙ e) in
-            let right : not (is_at (stands (task w.fiber)) (wait.Take w.mailbox)) ≡ false = bit_none (not (is_at (stands (task w.fiber)) (wait.Take w.mailbox))) (omega arith) in
-            subst (λ x. is_at (stands t) (wait.Take x) ≡ true) name (subst (λ u. is_at (stands u) (wait.Take w.mailbox) ≡ true) same (not_false (is_at (stands (task w.fiber)) (wait.Take w.mailbox)) right))
-        | inr isnt ↦ parked_rightly stands t box ws (omega arith) (sym (ap (λ y. if y then Some w.mailbox else parked_box task ws t) isnt) ∙ e)
-      ]
+  -- a task that may wait, and for which nothing is due, waits
+  waits_for : (books : Books) (v : Waits) → due_in false books.mailboxes v ≡ 0 → may_wait books.mailboxes v ≡ true → if_waits books (Some v) ≡ Some (box_of v)
+  waits_for books (wait.Take box) nothing may = ap (λ q. where_empty q box) (no_more (books.mailboxes box).queue nothing)
+  waits_for books (wait.Put box) nothing may = ap (λ y. if y then Some box else None) (no_room_full (books.mailboxes box).most (length (books.mailboxes box).queue) may nothing)
 
   module _ (b : Board F) (st : Stand b) (running : b.stopped ≡ false) (nobody-ready : b.ready ≡ []) (nobody-lent : lent_of b.cells ≡ []) where
     abbrev all_parked : List Place
@@ -705,7 +720,7 @@ module _ {F : Type 0} (task : F → ℕ) (course : F → Course) (holds : Settin
 
     none_out : (ws : List (Waiter F)) → count_by is_out (parked_of task ws) ≡ 0
     none_out [] = refl
-    none_out (w ∷ ws) = front_no is_out (record { spot = Parked (wait.Take w.mailbox); task = task w.fiber }) (parked_of task ws) refl ∙ none_out ws
+    none_out (w ∷ ws) = front_no is_out (record { spot = Parked w.waits; task = task w.fiber }) (parked_of task ws) refl ∙ none_out ws
 
     -- what the close says of a task is where its thread waits
     waits_rightly : (t : ℕ) (c : Course) (l : Lone) → slice_get st.state.books.courses t ≡ Some c → slice_get st.state.lones t ≡ Some l →
@@ -722,13 +737,14 @@ module _ {F : Type 0} (task : F → ℕ) (course : F → Course) (holds : Settin
         rightly false e =
             let alive : st.there t ≡ true = st.found running t (ap alive_course is-c ∙ ap not e) in
             let one : count_by (is_task t) (parked_of task b.parked) ≡ 1 = quiet_stood.placed t ∙ ap (λ y. cond y 1 0) alive in
-            let p : (box : BoxName) × (parked_box task b.parked t ≡ Some box) = parked_of_all t b.parked (omega arith) in
-            let at-it : stands_in set st.state.lones t ≡ Some (wait.Take p.0) = one_place (stands_in set st.state.lones t) (wait.Take p.0) (parked_rightly (stands_in set st.state.lones) t p.0 b.parked quiet_stood.astray p.1) in
+            let p : (v : Waits) × (parked_box task b.parked t ≡ Some (box_of v)) × (is_at (stands_in set st.state.lones t) v ≡ true) = parked_there (stands_in set st.state.lones) t b.parked (omega arith) quiet_stood.astray in
+            let at-it : stands_in set st.state.lones t ≡ Some p.0 = one_place (stands_in set st.state.lones t) p.0 p.2 in
             let r = at_rest st.there (stands_in set st.state.lones) (may_wait st.state.books.mailboxes) (due_in false st.state.books.mailboxes) t (parked_of task b.parked) (none_out b.parked) alive quiet_stood in
-            let same : r.0 ≡ wait.Take p.0 = some_injective r.0 (wait.Take p.0) (sym r.1 ∙ at-it) in
-            let empty : length (st.state.books.mailboxes p.0).queue ≡ 0 = subst (λ w. due_in false st.state.books.mailboxes w ≡ 0) same r.2 in
-            let lone-stands : stands_at set t l ≡ Some (wait.Take p.0) = sym (ap (lone_stands set t) is-l) ∙ at-it in
-            let waits : waits_at set st.state.books t l ≡ Some p.0 = ap (if_waits st.state.books) lone-stands ∙ ap (λ q. where_empty q p.0) (no_more (st.state.books.mailboxes p.0).queue empty) in
+            let same : r.0 ≡ p.0 = some_injective r.0 p.0 (sym r.1 ∙ at-it) in
+            let nothing : due_in false st.state.books.mailboxes p.0 ≡ 0 = subst (λ w. due_in false st.state.books.mailboxes w ≡ 0) same r.2 in
+            let may-it : may_wait st.state.books.mailboxes p.0 ≡ true = subst (λ w. may_wait st.state.books.mailboxes w ≡ true) same r.3 in
+            let lone-stands : stands_at set t l ≡ Some p.0 = sym (ap (lone_stands set t) is-l) ∙ at-it in
+            let waits : waits_at set st.state.books t l ≡ Some (box_of p.0) = ap (if_waits st.state.books) lone-stands ∙ waits_for st.state.books p.0 nothing may-it in
             (p.1 ∙ sym waits, ap is_some waits)
 
     closes_from : (t : ℕ) (cs : List Course) (ls : List Lone) → length ls ≡ length cs →

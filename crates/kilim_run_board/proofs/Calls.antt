@@ -1,5 +1,5 @@
 -- Each call keeps what the board stands for, and its answer fits.
-use Rattle.std.proofs.Common.{◌≡◌, ℕ, ◌<◌, ◌≤◌, nat_lt, Bool, true, false, not, cond, ◌&&◌, ◌==◌, List, [], ◌∷◌, ◌++◌, Option, Some, None, refl, sym, ap, subst, ◌∙◌, ◌⊎◌, inl, inr, arith}
+use Rattle.std.proofs.Common.{◌≡◌, ℕ, suc, ◌<◌, ◌≤◌, nat_lt, Bool, true, false, not, cond, ◌&&◌, ◌==◌, List, [], ◌∷◌, ◌++◌, Option, Some, None, refl, sym, ap, subst, ◌∙◌, ◌⊎◌, inl, inr, arith}
 use Rattle.std.specs.Prelude.{length, slice_get, slice_set, if◌then◌else◌}
 use Rattle.std.proofs.lemmas.Bool.Decides.{nat_tests}
 use Rattle.kilim_run_state.specs.declared.cause.EndCause.{EndCause}
@@ -11,34 +11,37 @@ use Rattle.kilim_run_journal.specs.declared.entry.Act.{Act}
 use Rattle.kilim_run_journal.specs.declared.entry.Act.TheVariants as act
 use Rattle.kilim_run_journal.specs.declared.entry.Entry.{Entry}
 use Rattle.kilim_program.specs.Names.{◌>>=◌}
-use Rattle.kilim_run_model.specs.State.{Setting, is_full, with_mailbox, with_message, with_queue}
+use Rattle.kilim_run_model.specs.State.{Setting, bounded, empty_mailbox, is_full, with_mailbox, with_message, with_queue}
 use Rattle.kilim_run_model.specs.declared.waits.Waits.{Waits}
 use Rattle.kilim_run_model.specs.declared.waits.Waits.TheVariants as wait
 use Rattle.kilim_run_model.specs.Turn.{task_limit}
 use Rattle.kilim_run_model.specs.Moving.{books_taken, books_empty}
+use Rattle.kilim_run_board.specs.NewBounds.{IsNowhere, BoundsAreNew}
 use Rattle.kilim_run_board.specs.fibers.Fibers.{NewCourse, StandsFor}
 use Rattle.kilim_run_board.specs.declared.fibers.Answer.TheVariants as answer
 use Rattle.kilim_run_board.specs.Places.{is_at}
-use Rattle.kilim_run_board.specs.Board.{Board, stands_in, due_in, HoldsQueue, IsOwn, BoardStands, Lends, GivesBack, Parks, Stops, PutsMessage, TakesMessage, Notes, StartsTask, EndsTask}
-use Rattle.kilim_run_board.specs.waiting.Mailboxes.{Tree, Post, Mail}
+use Rattle.kilim_run_board.specs.Board.{Board, stands_in, may_wait, due_in, HoldsQueue, HoldsPost, IsOwn, BoardStands, Lends, GivesBack, Parks, Stops, PutsMessage, TakesMessage, BoundsMailbox, Notes, StartsTask, EndsTask}
+use Rattle.kilim_run_board.specs.waiting.Mailboxes.{Tree, Post, Mail, has_to_wait}
 use Rattle.kilim_run_board.specs.declared.fibers.Wants.{Wants}
 use Rattle.kilim_run_board.specs.declared.fibers.Wants.TheVariants as wants
 use Rattle.kilim_run_board.specs.declared.board.Acted.{Acted}
 use Rattle.kilim_run_board.specs.declared.board.Acted.TheVariants as acted
-use Rattle.kilim_run_board.specs.Seen.{CourseAt, SameBoard, IsNumbered, ActAnswers, ActMeets, IsAnswered, wish_in}
-use Rattle.kilim_run_board.proofs.waiting.Names.{box_itself}
+use Rattle.kilim_run_board.specs.Seen.{CourseAt, SameBoard, IsNumbered, ActAnswers, IsUnbounded, MayBound, ActMeets, IsAnswered, wish_in}
+use Rattle.kilim_run_board.proofs.waiting.Names.{wait_itself}
+use Rattle.kilim_run_board.proofs.Dues.{full_no_room}
+use Rattle.kilim_run_board.proofs.Fresh.{nowhere_same}
 use Rattle.kilim_lemmas.proofs.Lists.{set_there, get_front}
 use Rattle.kilim_run_board.proofs.waiting.Lists.{got_within}
 use Rattle.kilim_run_board.proofs.Replays.{some_injective, lone_of, books_on}
 use Rattle.kilim_run_model.proofs.Alone.{one_lone}
-use Rattle.kilim_run_board.proofs.Deeds.{IsDone, put_done, take_done, probe_done, empty_done, start_done, full_done, filled_done, print_done, end_done, never_tasks}
-use Rattle.kilim_run_board.proofs.Boards.{same_board, lent_first, back_ready, back_parked, stopped_board, noted_board, put_stands, taken_board, ended_board, started_board, get_of_wish, wait_of_wish, full_alike, holds_with}
+use Rattle.kilim_run_board.proofs.Deeds.{IsDone, put_done, waiting_done, bounds_next, bound_done, take_done, probe_done, empty_done, start_done, full_done, filled_done, print_done, end_done, never_tasks}
+use Rattle.kilim_run_board.proofs.Boards.{same_board, lent_first, back_ready, back_parked, stopped_board, noted_board, put_stands, taken_stands, bounded_board, ended_board, started_board, get_of_wish, wait_of_wish, full_alike, holds_with}
 use Rattle.kilim_run_model.specs.Lone.{Lone}
 use Rattle.kilim_run_model.specs.Course.{next_action, Course, IsLone, is_end, stands_at, plain}
 use Rattle.kilim_run_model.specs.declared.deed.Deed.{Deed}
 use Rattle.kilim_run_model.specs.declared.deed.Beginning.TheVariants.{Begun}
 use Rattle.kilim_run_model.specs.Moving.{Books, FullHere, books_from, books_after, books_by, is_tasks, first_books, further}
-use Rattle.kilim_run_board.specs.fibers.Wishes.{IsMessage, Wish, ToPut, ToTake, ToProbe, ToStart, ToPrint, ToEnd, wish_of, Wishes}
+use Rattle.kilim_run_board.specs.fibers.Wishes.{IsMessage, Wish, ToPut, ToPutWait, ToBound, ToTake, ToProbe, ToStart, ToPrint, ToEnd, wish_of, Wishes}
 
 abbrev bit : Bool → ℕ
 bit b = cond b 1 0
@@ -85,21 +88,32 @@ module _ {F : Type 0} (task : F → ℕ) (course : F → Course) (holds : Settin
   queue_empty p [] (q ∷ qs) held e = absurd held
   queue_empty p (m ∷ ms) qs held e = absurd (cc)
 
-  none_due : (stopped : Bool) (posts : BoxName → Post) (box : BoxName) → (posts box).queue ≡ [] → due_in stopped posts (wait.Take box) ≡ 0
-  none_due true posts box e = refl
-  none_due false posts box e = ap length e
+  is_nothing : {A : Type 0} (xs : List A) → (length xs == 0) ≡ true → xs ≡ []
+  is_nothing [] e = refl
+  is_nothing (x ∷ xs) e = absurd (let h : suc (length xs) ≡ 0 = grind (arith, nat_tests) in omega arith)
 
-  pub parks_stands : (b b' : Board F) (seat : ℕ) (f : F) (box : BoxName) → slice_get b.cells seat ≡ Some (Some (task f)) → (stands : StandsFor task course holds set f) → CourseAt b (task f) (course f) → stands_at set (task f) stands.lone ≡ Some (wait.Take box) → (b.mails box).queue ≡ [] →
-      Parks b seat b' f box → Stand b → Stand b'
-  parks_stands b b' seat f box lent stands at stands-there empty parks st =
+  if_none : (stopped : Bool) (n : ℕ) → n ≡ 0 → (if stopped then 0 else n) ≡ 0
+  if_none true n e = refl
+  if_none false n e = e
+
+  -- where there is to wait nothing is due, and it can be waited for
+  none_due : (p : Program) (stopped : Bool) (mails : BoxName → Mail) (posts : BoxName → Post) → ((box : BoxName) → HoldsPost p (mails box) (posts box)) → (v : Waits) → has_to_wait mails v ≡ true → (due_in stopped posts v ≡ 0) × (may_wait posts v ≡ true)
+  none_due p stopped mails posts held (wait.Take box) has =
+      (if_none stopped (length (posts box).queue) (ap length (queue_empty p (mails box).queue (posts box).queue (held box).queue (is_nothing (mails box).queue has))), refl)
+  none_due p stopped mails posts held (wait.Put box) has =
+      let f = full_no_room (posts box).most (length (posts box).queue) (sym (full_alike p (mails box) (posts box) (held box)) ∙ has) in (if_none stopped _ f.0, f.1)
+
+  pub parks_stands : (b b' : Board F) (seat : ℕ) (f : F) (v : Waits) → slice_get b.cells seat ≡ Some (Some (task f)) → (stands : StandsFor task course holds set f) → CourseAt b (task f) (course f) → stands_at set (task f) stands.lone ≡ Some v → has_to_wait b.mails v ≡ true →
+      Parks b seat b' f v → Stand b → Stand b'
+  parks_stands b b' seat f v lent stands at stands-there has parks st =
       let there-c = course_of_state b st (task f) (course f) at in
       let l : (l : Lone) × (slice_get st.state.lones (task f) ≡ Some l) × IsLone set (task f) (course f) l = lone_of set b.journal st.state st.replay (task f) (course f) there-c in
       let same : stands.lone ≡ l.0 = one_lone set (task f) (course f) stands.lone l.0 stands.is l.2 in
-      let where-it-is : stands_in set st.state.lones (task f) ≡ Some (wait.Take box) = ap (λ (o : Option Lone). elim o [ None ↦ None | Some x ↦ stands_at set (task f) x ]) l.1 ∙ (ap (stands_at set (task f)) (sym same) ∙ stands-there) in
-      let at-it : is_at (stands_in set st.state.lones (task f)) (wait.Take box) ≡ true = ap (λ o. is_at o (wait.Take box)) where-it-is ∙ box_itself box in
-      let none : due_in b.stopped st.state.books.mailboxes (wait.Take box) ≡ 0 = none_due b.stopped st.state.books.mailboxes box (queue_empty set.program (b.mails box).queue (st.state.books.mailboxes box).queue (st.mails box).queue empty) in
+      let where-it-is : stands_in set st.state.lones (task f) ≡ Some v = ap (λ (o : Option Lone). elim o [ None ↦ None | Some x ↦ stands_at set (task f) x ]) l.1 ∙ (ap (stands_at set (task f)) (sym same) ∙ stands-there) in
+      let at-it : is_at (stands_in set st.state.lones (task f)) v ≡ true = ap (λ o. is_at o v) where-it-is ∙ wait_itself v in
+      let none : (due_in b.stopped st.state.books.mailboxes v ≡ 0) × (may_wait st.state.books.mailboxes v ≡ true) = none_due set.program b.stopped b.mails st.state.books.mailboxes st.mails v has in
       let b1 : Board F = record { journal = b.journal; tasks = b.tasks; ready = b.ready; parked = b'.parked; cells = slice_set b.cells seat None; mails = b.mails; stopped = b.stopped } in
-      let st1 : Stand b1 = back_parked task course holds set b st seat (task f) lent f box b'.parked parks.parked refl (own_of b st f stands at) at-it none in
+      let st1 : Stand b1 = back_parked task course holds set b st seat (task f) lent f v b'.parked parks.parked refl (own_of b st f stands at) at-it none.1 none.0 in
       same_board task course holds set b1 b' parks.run.journal parks.run.tasks parks.ready refl parks.cells parks.run.mails parks.stopped st1
 
   pub stops_stands : (b b' : Board F) (seat t : ℕ) → slice_get b.cells seat ≡ Some (Some t) → Stops b seat b' → Stand b → Stand b'
@@ -186,12 +200,16 @@ module _ {F : Type 0} (task : F → ℕ) (course : F → Course) (holds : Settin
             let e : (length st.state.books.courses == task_limit) ≡ true = let f : length st.state.books.courses ≡ task_limit = sym st.tasks ∙ full refl in grind (arith, nat_tests) in
             ap (λ y. if not y then None else Some (record { courses = slice_set st.state.books.courses t (further c (plain (act.End cause.Tasks))); mailboxes = st.state.books.mailboxes })) e
 
-    -- a put
-    pub puts_stands : (box : BoxName) (tree : Tree) (shape : List Token) → wish ≡ ToPut box shape → IsMessage set.program tree shape → is_full (b.mails box) ≡ false → PutsMessage b t b' box tree shape → Stand b' × CourseAt b' t (further c (plain (act.Put box (b.mails box).puts shape)))
+    -- a put, that waits or not
+    pub puts_stands : (box : BoxName) (tree : Tree) (shape : List Token) → (wish ≡ ToPut box shape) ⊎ (wish ≡ ToPutWait box shape) → IsMessage set.program tree shape → is_full (b.mails box) ≡ false → PutsMessage b t b' box tree shape → Stand b' × CourseAt b' t (further c (plain (act.Put box (b.mails box).puts shape)))
     puts_stands box tree shape is message free puts =
         let d : Deed = plain (act.Put box (b.mails box).puts shape) in
-        let done : IsDone set (next_action set t lone.0) d = put_done set (next_action set t lone.0) box shape (b.mails box).puts (next ∙ ap (λ w. Some w) is) in
-        let st1 = put_stands task course holds set b st seat t lent c there-c lone.0 lone.1 d done.0 done.1 box tree shape refl message (inl (stands-there ∙ ap wait_of_wish is)) free in
+        let done : IsDone set (next_action set t lone.0) d = elim is [
+          | inl e ↦ put_done set (next_action set t lone.0) box shape (b.mails box).puts (next ∙ ap (λ w. Some w) e)
+          | inr e ↦ waiting_done set (next_action set t lone.0) box shape (b.mails box).puts (next ∙ ap (λ w. Some w) e)
+        ] in
+        let stands-at : (stands_in set st.state.lones t ≡ None) ⊎ (stands_in set st.state.lones t ≡ Some (wait.Put box)) = elim is [ inl e ↦ inl (stands-there ∙ ap wait_of_wish e) | inr e ↦ inr (stands-there ∙ ap wait_of_wish e) ] in
+        let st1 = put_stands task course holds set b st seat t lent c there-c lone.0 lone.1 d done.0 done.1 box tree shape refl message stands-at free in
         let counted : ((b.mails box).puts == (st.state.books.mailboxes box).puts) ≡ true = let f = (st.mails box).puts in grind (arith, nat_tests) in
         let has_room : is_full (st.state.books.mailboxes box) ≡ false = sym (full_alike set.program (b.mails box) (st.state.books.mailboxes box) (st.mails box)) ∙ free in
         let same : ((b.mails box).puts == (st.state.books.mailboxes box).puts && not (is_full (st.state.books.mailboxes box))) ≡ true = ap (λ y. y && not (is_full (st.state.books.mailboxes box))) counted ∙ ap not has_room in
@@ -199,6 +217,19 @@ module _ {F : Type 0} (task : F → ℕ) (course : F → Course) (holds : Settin
           same_board task course holds set _ b' puts.journal puts.tasks puts.ready puts.parked puts.cells puts.mails puts.stopped st1,
           now_at (record { task = t; act = d.act }) (slice_set st.state.books.courses t (further c d)) posts d puts.journal
               (to_course d.act ∙ ap (λ y. if y then Some (record { courses = slice_set st.state.books.courses t (further c d); mailboxes = posts }) else None) same) (here_now d),
+        )
+
+    -- a bound
+    pub bounds_stands : (box : BoxName) (most : ℕ) → wish ≡ ToBound box most → (b.mails box).most ≡ None → BoundsMailbox b t b' box most → Stand b' × CourseAt b' t (further c (plain (act.Bound box most)))
+    bounds_stands box most is none bounds =
+        let d : Deed = plain (act.Bound box most) in
+        let done : IsDone set (next_action set t lone.0) d = bound_done set (next_action set t lone.0) box most (next ∙ ap (λ w. Some w) is) in
+        let posts : BoxName → Post = with_mailbox st.state.books.mailboxes box (bounded (st.state.books.mailboxes box) most) in
+        let mails : BoxName → Mail = with_mailbox b.mails box (bounded (b.mails box) most) in
+        let st1 = bounded_board task course holds set b st seat t lent c there-c lone.0 lone.1 d done.0 done.1 box most mails (stands-there ∙ ap wait_of_wish is) (sym (st.mails box).most ∙ none) refl (to_course d.act)
+        (holds_with set.program b.mails st.state.books.mailboxes box (bounded (b.mails box) most) (bounded (st.state.books.mailboxes box) most) st.mails (record { most = refl; puts = (st.mails box).puts; queue = (st.mails box).queue })) in (
+          same_board task course holds set _ b' bounds.journal bounds.tasks bounds.spots.ready bounds.spots.parked bounds.spots.cells bounds.mails bounds.spots.stopped st1,
+          now_at (record { task = t; act = d.act }) (slice_set st.state.books.courses t (further c d)) posts d bounds.journal (to_course d.act) (here_now d),
         )
 
     -- a take
@@ -222,9 +253,9 @@ module _ {F : Type 0} (task : F → ℕ) (course : F → Course) (holds : Settin
             let same : (first.0 == n) ≡ true = let f = held.0 in grind (arith, nat_tests) in
             let goes : books_by st.state.books t c (act.Take box n) ≡ Some (record { courses = slice_set st.state.books.courses t (further c d); mailboxes = posts }) =
             ap (books_taken st.state.books t c box n) is-q ∙ ap (λ y. if y then Some (record { courses = slice_set st.state.books.courses t (further c d); mailboxes = posts }) else None) same in
-            let st1 = taken_board task course holds set b st seat t lent c there-c lone.0 lone.1 d done.0 done.1 box mails first others stands-at is-q refl (to_course d.act ∙ goes)
+            let st1 = taken_stands task course holds set b st seat t lent c there-c lone.0 lone.1 d done.0 done.1 box mails first others stands-at is-q refl (to_course d.act ∙ goes)
             (holds_with set.program b.mails st.state.books.mailboxes box (with_queue (b.mails box) rest) (with_queue (st.state.books.mailboxes box) others) st.mails (record { most = (st.mails box).most; puts = (st.mails box).puts; queue = held.2 })) in (
-              same_board task course holds set _ b' takes.journal takes.tasks takes.spots.ready takes.spots.parked takes.spots.cells takes.mails takes.spots.stopped st1,
+              same_board task course holds set _ b' takes.journal takes.tasks takes.ready takes.parked takes.cells takes.mails takes.stopped st1,
               (first.1, held.1, now_at (record { task = t; act = d.act }) (slice_set st.state.books.courses t (further c d)) posts d takes.journal (to_course d.act ∙ goes) (here_now d)),
             )
 
@@ -246,7 +277,7 @@ module _ {F : Type 0} (task : F → ℕ) (course : F → Course) (holds : Settin
 
 -- ---- each act at once
 
-module _ {F : Type 0} (task : F → ℕ) (course : F → Course) (count : F → ℕ) (refused : F → Option BoxName) (holds : Setting → F → Lone → Type 0) (set : Setting) where
+module _ {F : Type 0} (task : F → ℕ) (course : F → Course) (count : F → ℕ) (refused : F → Option Waits) (holds : Setting → F → Lone → Type 0) (set : Setting) where
   abbrev Numbered : F → F → ℕ → Type 0
   Numbered f f' k = IsNumbered task course count refused holds f f' k
 
@@ -256,12 +287,33 @@ module _ {F : Type 0} (task : F → ℕ) (course : F → Course) (count : F → 
     (at.0, ap (books_from first_books) same.run.journal ∙ at.1, at.2),
   )
 
+  -- what is bounded is new
+  unbounded : (b : Board F) (st : BoardStands task course holds set b) (t : ℕ) (c : Course) (box : BoxName) (most : ℕ) → CourseAt b t c → Wishes set t c (ToBound box most) → BoundsAreNew set → IsUnbounded b box most
+  unbounded b st t c box most at wishes new =
+      let there = course_of_state task course holds set b st t c at in
+      let n = bounds_next (next_action set t wishes.lone) box most wishes.next in
+      let h : IsNowhere box b.journal × (1 ≤ most) = new b.journal st.state st.replay t c wishes.lone there wishes.is box most n.0 n.1 in
+      let same : st.state.books.mailboxes box ≡ empty_mailbox = nowhere_same box b.journal first_books st.state.books h.0 st.replay.books in
+      record { some = h.1; none = (st.mails box).most ∙ ap (λ (m : Post). m.most) same; new = (st.mails box).puts ∙ ap (λ (m : Post). m.puts) same }
+
+  pub may_bound : (b : Board F) (t : ℕ) (c : Course) (w : Wants F) → BoardStands task course holds set b → CourseAt b t c → ActMeets task course holds set t c w → MayBound b w
+  may_bound b t c (wants.Put box tree shape) st at meets = tt
+  may_bound b t c (wants.PutWait box tree shape) st at meets = tt
+  may_bound b t c (wants.Bound box most) st at meets = unbounded b st t c box most at meets.0 meets.1
+  may_bound b t c (wants.Take box) st at meets = tt
+  may_bound b t c (wants.Probe box) st at meets = tt
+  may_bound b t c (wants.Start f shape) st at meets = tt
+  may_bound b t c (wants.Print shape) st at meets = tt
+  may_bound b t c (wants.Rest waits) st at meets = tt
+  may_bound b t c (wants.End why) st at meets = tt
+
   pub act_stands : (b b' : Board F) (seat t : ℕ) (c : Course) (w : Wants F) (a : Acted) → ActAnswers Numbered b seat t b' w a → slice_get b.cells seat ≡ Some (Some t) → CourseAt b t c → ActMeets task course holds set t c w → BoardStands task course holds set b →
       BoardStands task course holds set b' × IsAnswered set b' t c (wish_in w) a
   act_stands b b' seat t c (wants.Put box tree shape) (acted.Answer (answer.Sent n)) did lent at meets st =
-      let r = puts_stands task course holds set b b' st seat t lent c at (ToPut box shape) meets.0 box tree shape refl meets.1 did.1 did.2 in
+      let r = puts_stands task course holds set b b' st seat t lent c at (ToPut box shape) meets.0 box tree shape (inl refl) meets.1 did.1 did.2 in
       (r.0, (Some (plain (act.Put box n shape)), refl, subst (λ k. CourseAt b' t (further c (plain (act.Put box k shape)))) (sym did.0) r.1))
   act_stands b b' seat t c (wants.Put box tree shape) (acted.Answer answer.Done) did lent at meets st = absurd did
+  act_stands b b' seat t c (wants.Put box tree shape) (acted.Answer (answer.Full x y)) did lent at meets st = absurd did
   act_stands b b' seat t c (wants.Put box tree shape) (acted.Answer (answer.Message x n)) did lent at meets st = absurd did
   act_stands b b' seat t c (wants.Put box tree shape) (acted.Answer answer.Nothing) did lent at meets st = absurd did
   act_stands b b' seat t c (wants.Put box tree shape) (acted.Answer (answer.Started k)) did lent at meets st = absurd did
@@ -274,6 +326,27 @@ module _ {F : Type 0} (task : F → ℕ) (course : F → Course) (count : F → 
             (λ other x e. ap (λ (z : BoxName). is_full (st.state.books.mailboxes z)) (sym (ap (put_box other) e)) ∙ (sym same ∙ did.0)) (filled_done set (next_action set t l.0) box shape n) refl (λ is. absurd (cc)) did.1,
         tt,
       )
+  act_stands b b' seat t c (wants.PutWait box tree shape) (acted.Answer (answer.Sent n)) did lent at meets st =
+      let r = puts_stands task course holds set b b' st seat t lent c at (ToPutWait box shape) meets.0 box tree shape (inr refl) meets.1 did.1 did.2 in
+      (r.0, (Some (plain (act.Put box n shape)), refl, subst (λ k. CourseAt b' t (further c (plain (act.Put box k shape)))) (sym did.0) r.1))
+  act_stands b b' seat t c (wants.PutWait box tree shape) (acted.Answer (answer.Full back same)) did lent at meets st =
+      let r = unnoted b b' t c did.3 st at in (r.0, (None, (refl, did.2, subst (λ x. IsMessage set.program x shape) (sym did.1) meets.1), r.1))
+  act_stands b b' seat t c (wants.PutWait box tree shape) (acted.Answer answer.Done) did lent at meets st = absurd did
+  act_stands b b' seat t c (wants.PutWait box tree shape) (acted.Answer (answer.Message x n)) did lent at meets st = absurd did
+  act_stands b b' seat t c (wants.PutWait box tree shape) (acted.Answer answer.Nothing) did lent at meets st = absurd did
+  act_stands b b' seat t c (wants.PutWait box tree shape) (acted.Answer (answer.Started k)) did lent at meets st = absurd did
+  act_stands b b' seat t c (wants.PutWait box tree shape) acted.OutOfTasks did lent at meets st = absurd did
+  act_stands b b' seat t c (wants.PutWait box tree shape) acted.OutOfRoom did lent at meets st = absurd did
+  act_stands b b' seat t c (wants.Bound box most) (acted.Answer answer.Done) did lent at meets st =
+      let new = unbounded b st t c box most at meets.0 meets.1 in
+      let r = bounds_stands task course holds set b b' st seat t lent c at (ToBound box most) meets.0 box most refl new.none did in (r.0, (Some (plain (act.Bound box most)), refl, r.1))
+  act_stands b b' seat t c (wants.Bound box most) (acted.Answer (answer.Sent n)) did lent at meets st = absurd did
+  act_stands b b' seat t c (wants.Bound box most) (acted.Answer (answer.Full x y)) did lent at meets st = absurd did
+  act_stands b b' seat t c (wants.Bound box most) (acted.Answer (answer.Message x n)) did lent at meets st = absurd did
+  act_stands b b' seat t c (wants.Bound box most) (acted.Answer answer.Nothing) did lent at meets st = absurd did
+  act_stands b b' seat t c (wants.Bound box most) (acted.Answer (answer.Started k)) did lent at meets st = absurd did
+  act_stands b b' seat t c (wants.Bound box most) acted.OutOfTasks did lent at meets st = absurd did
+  act_stands b b' seat t c (wants.Bound box most) acted.OutOfRoom did lent at meets st = absurd did
   act_stands b b' seat t c (wants.Take box) (acted.Answer (answer.Message tree n)) did lent at meets st =
       let r = takes_stands task course holds set b b' st seat t lent c at (ToTake box) meets box n tree did.0 (inl refl) did.1 in
       (r.0, (Some (record { act = act.Take box n; taken = r.1.0 }), (r.1.0, r.1.1, refl), r.1.2))
@@ -281,6 +354,7 @@ module _ {F : Type 0} (task : F → ℕ) (course : F → Course) (count : F → 
       let r = unnoted b b' t c did.1 st at in (r.0, (None, refl, r.1))
   act_stands b b' seat t c (wants.Take box) (acted.Answer answer.Done) did lent at meets st = absurd did
   act_stands b b' seat t c (wants.Take box) (acted.Answer (answer.Sent n)) did lent at meets st = absurd did
+  act_stands b b' seat t c (wants.Take box) (acted.Answer (answer.Full x y)) did lent at meets st = absurd did
   act_stands b b' seat t c (wants.Take box) (acted.Answer (answer.Started k)) did lent at meets st = absurd did
   act_stands b b' seat t c (wants.Take box) acted.OutOfRoom did lent at meets st = absurd did
   act_stands b b' seat t c (wants.Take box) acted.OutOfTasks did lent at meets st = absurd did
@@ -291,6 +365,7 @@ module _ {F : Type 0} (task : F → ℕ) (course : F → Course) (count : F → 
       let r = empty_stands task course holds set b b' st seat t lent c at (ToProbe box) meets box refl did.0 did.1 in (r.0, (Some (plain (act.Empty box)), refl, r.1))
   act_stands b b' seat t c (wants.Probe box) (acted.Answer answer.Done) did lent at meets st = absurd did
   act_stands b b' seat t c (wants.Probe box) (acted.Answer (answer.Sent n)) did lent at meets st = absurd did
+  act_stands b b' seat t c (wants.Probe box) (acted.Answer (answer.Full x y)) did lent at meets st = absurd did
   act_stands b b' seat t c (wants.Probe box) (acted.Answer (answer.Started k)) did lent at meets st = absurd did
   act_stands b b' seat t c (wants.Probe box) acted.OutOfRoom did lent at meets st = absurd did
   act_stands b b' seat t c (wants.Probe box) acted.OutOfTasks did lent at meets st = absurd did
@@ -304,11 +379,13 @@ module _ {F : Type 0} (task : F → ℕ) (course : F → Course) (count : F → 
       (ends_stands task course holds set b b' st seat t lent c at (ToStart shape) meets.0 cause.Tasks (λ box x e. absurd (cc)) (full_done set (next_action set t l.0) shape n) refl (λ _. did.0) did.1, tt)
   act_stands b b' seat t c (wants.Start f shape) (acted.Answer answer.Done) did lent at meets st = absurd did
   act_stands b b' seat t c (wants.Start f shape) (acted.Answer (answer.Sent n)) did lent at meets st = absurd did
+  act_stands b b' seat t c (wants.Start f shape) (acted.Answer (answer.Full x y)) did lent at meets st = absurd did
   act_stands b b' seat t c (wants.Start f shape) (acted.Answer (answer.Message x n)) did lent at meets st = absurd did
   act_stands b b' seat t c (wants.Start f shape) (acted.Answer answer.Nothing) did lent at meets st = absurd did
   act_stands b b' seat t c (wants.Print shape) (acted.Answer answer.Done) did lent at meets st =
       let r = prints_stands task course holds set b b' st seat t lent c at (ToPrint shape) meets shape refl did in (r.0, (Some (plain (act.Print shape)), refl, r.1))
   act_stands b b' seat t c (wants.Print shape) (acted.Answer (answer.Sent n)) did lent at meets st = absurd did
+  act_stands b b' seat t c (wants.Print shape) (acted.Answer (answer.Full x y)) did lent at meets st = absurd did
   act_stands b b' seat t c (wants.Print shape) (acted.Answer (answer.Message x n)) did lent at meets st = absurd did
   act_stands b b' seat t c (wants.Print shape) (acted.Answer answer.Nothing) did lent at meets st = absurd did
   act_stands b b' seat t c (wants.Print shape) (acted.Answer (answer.Started k)) did lent at meets st = absurd did
@@ -320,6 +397,7 @@ module _ {F : Type 0} (task : F → ℕ) (course : F → Course) (count : F → 
       let n = next task course holds set b b' st seat t lent c at (ToEnd why) meets in
       (ends_stands task course holds set b b' st seat t lent c at (ToEnd why) meets why (λ box x e. absurd (cc)) (end_done set (next_action set t l.0) why n) refl (λ is. absurd (let h = never_tasks (next_action set t l.0) why n in let k : true ≡ false = sym is ∙ h in cc)) did, tt)
   act_stands b b' seat t c (wants.End why) (acted.Answer (answer.Sent n)) did lent at meets st = absurd did
+  act_stands b b' seat t c (wants.End why) (acted.Answer (answer.Full x y)) did lent at meets st = absurd did
   act_stands b b' seat t c (wants.End why) (acted.Answer (answer.Message x n)) did lent at meets st = absurd did
   act_stands b b' seat t c (wants.End why) (acted.Answer answer.Nothing) did lent at meets st = absurd did
   act_stands b b' seat t c (wants.End why) (acted.Answer (answer.Started k)) did lent at meets st = absurd did

@@ -7,17 +7,18 @@ use Rattle.std.proofs.lemmas.List.{get_or-set_same, get_or-set_other, length-set
 use Rattle.kilim_program.specs.declared.names.BoxName.{BoxName}
 use Rattle.kilim_run_journal.specs.declared.entry.Entry.{Entry}
 use Rattle.kilim_run_model.specs.State.{Setting}
+use Rattle.kilim_run_model.specs.declared.waits.Waits.{Waits}
 use Rattle.kilim_run_model.specs.Runs.{wait_entry}
 use Rattle.kilim_run_board.specs.fibers.Fibers.{StandsFor}
 use Rattle.kilim_run_board.specs.declared.waiting.parked.Waiter.{Waiter}
 use Rattle.kilim_run_board.specs.Places.{Ready, is_task, Stood}
-use Rattle.kilim_run_board.specs.Board.{Board, BoardStands, is_alive, stands_in, may_wait, due_in, lent_of, closing, parked_box, AreBoxes, IsQuiet}
+use Rattle.kilim_run_board.specs.Board.{Board, BoardStands, is_alive, stands_in, may_wait, due_in, lent_of, box_of, closing, parked_box, AreBoxes, IsQuiet}
 use Rattle.std.specs.Vec.{vec_capacity}
 use Rattle.std.specs.VecDeque.{deque_capacity}
 use Rattle.kilim_run_state.specs.declared.value.Token.{Token}
 use Rattle.kilim_run_board.specs.declared.fibers.Wants.{Wants}
 use Rattle.kilim_run_board.specs.declared.fibers.Wants.TheVariants as wants
-use Rattle.kilim_run_board.specs.waiting.Mailboxes.{mail_of, Tree, HasRoom}
+use Rattle.kilim_run_board.specs.waiting.Mailboxes.{mail_of, has_to_wait, Tree, HasRoom}
 use Rattle.kilim_run_board.proofs.waiting.Named.{counted_same}
 use Rattle.kilim_run_board.specs.declared.board.Board as kept
 use Rattle.kilim_run_board.specs.Seen.{seen, IsRoomy, RoomFor, SameBoard, CourseAt, GiveAnswers, gives_at, RestsAs, IsNewBoard, MovedWhole}
@@ -30,10 +31,6 @@ use Rattle.kilim_run_model.specs.Course.{Course, IsLone}
 use Rattle.kilim_run_model.specs.declared.deed.Beginning.TheVariants.{Boot}
 use Rattle.kilim_run_model.specs.Moving.{first_books}
 
-nothing_there : {A : Type 0} (xs : List A) → (length xs == 0) ≡ true → xs ≡ []
-nothing_there [] e = refl
-nothing_there (x ∷ xs) e = absurd (let h : suc (length xs) ≡ 0 = grind (arith, nat_tests) in omega arith)
-
 pub none_lent : (n : ℕ) → lent_of (replicate n None) ≡ []
 none_lent zero = refl
 none_lent (suc n) = none_lent n
@@ -42,12 +39,12 @@ module _ {F : Type 0} (task : F → ℕ) (course : F → Course) (holds : Settin
   abbrev Stand : Board F → Type 0
   Stand b = BoardStands task course holds set b
 
-  pub give_stands : (b b' : Board F) (seat : ℕ) (f : F) (waits : Option BoxName) → slice_get b.cells seat ≡ Some (Some (task f)) → GiveAnswers b seat b' f waits → Stand b → RestsAs task course holds set f waits → CourseAt b (task f) (course f) → Stand b'
+  pub give_stands : (b b' : Board F) (seat : ℕ) (f : F) (waits : Option Waits) → slice_get b.cells seat ≡ Some (Some (task f)) → GiveAnswers b seat b' f waits → Stand b → RestsAs task course holds set f waits → CourseAt b (task f) (course f) → Stand b'
   give_stands b b' seat f None lent did st rests at = gives_back_stands task course holds set b b' seat f lent rests at did st
-  give_stands b b' seat f (Some box) lent did st rests at = given_by (length (b.mails box).queue == 0) refl did
+  give_stands b b' seat f (Some v) lent did st rests at = given_by (has_to_wait b.mails v) refl did
     where
-      given_by : (y : Bool) → (length (b.mails box).queue == 0) ≡ y → gives_at y b seat b' f box → Stand b'
-      given_by true e parks = parks_stands task course holds set b b' seat f box lent rests.stands at rests.at (nothing_there (b.mails box).queue e) parks st
+      given_by : (y : Bool) → has_to_wait b.mails v ≡ y → gives_at y b seat b' f v → Stand b'
+      given_by true e parks = parks_stands task course holds set b b' seat f v lent rests.stands at rests.at e parks st
       given_by false e gives = gives_back_stands task course holds set b b' seat f lent rests.stands at gives st
 
   -- ---- the first board
@@ -140,18 +137,18 @@ module _ {F : Type 0} (task : F → ℕ) where
       all_dropped [] = refl
       all_dropped (w ∷ ws) = all_dropped ws
 
-  pub boxed_more : (ws : List (Waiter F)) (n k : ℕ) (w : Waiter F) (boxes boxes' : List (Option BoxName)) → drop k ws ≡ w ∷ drop (k + 1) ws → boxes' ≡ slice_set boxes (task w.fiber) (Some w.mailbox) → AreBoxes task (drop (k + 1) ws) n boxes → AreBoxes task (drop k ws) n boxes'
-  boxed_more ws n k w boxes boxes' e d a = subst (AreBoxes task (drop k ws) n) (sym d) (subst (λ l. AreBoxes task l n (slice_set boxes (task w.fiber) (Some w.mailbox))) (sym e) (record { each = length-set boxes (task w.fiber) (Some w.mailbox) ∙ a.each; at = at }))
+  pub boxed_more : (ws : List (Waiter F)) (n k : ℕ) (w : Waiter F) (boxes boxes' : List (Option BoxName)) → drop k ws ≡ w ∷ drop (k + 1) ws → boxes' ≡ slice_set boxes (task w.fiber) (Some (box_of w.waits)) → AreBoxes task (drop (k + 1) ws) n boxes → AreBoxes task (drop k ws) n boxes'
+  boxed_more ws n k w boxes boxes' e d a = subst (AreBoxes task (drop k ws) n) (sym d) (subst (λ l. AreBoxes task l n (slice_set boxes (task w.fiber) (Some (box_of w.waits)))) (sym e) (record { each = length-set boxes (task w.fiber) (Some (box_of w.waits)) ∙ a.each; at = at }))
     where
-      at : (t : ℕ) → t < n → slice_index_or (slice_set boxes (task w.fiber) (Some w.mailbox)) t None ≡ parked_box task (w ∷ drop (k + 1) ws) t
+      at : (t : ℕ) → t < n → slice_index_or (slice_set boxes (task w.fiber) (Some (box_of w.waits))) t None ≡ parked_box task (w ∷ drop (k + 1) ws) t
       at t less = elim (both_ways (task w.fiber == t)) [
         | inl same ↦
             let u : t ≡ task w.fiber = grind (arith, nat_tests) in
             let each = a.each in
-            ap (λ i. slice_index_or (slice_set boxes (task w.fiber) (Some w.mailbox)) i None) u ∙ get_or-set_same boxes (task w.fiber) (Some w.mailbox) None (let v = sym u in omega (arith, less, each, v)) ∙ ap (λ b. if b then Some w.mailbox else parked_box task (drop (k + 1) ws) t) (sym same)
+            ap (λ i. slice_index_or (slice_set boxes (task w.fiber) (Some (box_of w.waits))) i None) u ∙ get_or-set_same boxes (task w.fiber) (Some (box_of w.waits)) None (let v = sym u in omega (arith, less, each, v)) ∙ ap (λ b. if b then Some (box_of w.waits) else parked_box task (drop (k + 1) ws) t) (sym same)
         | inr other ↦
-            get_or-set_other boxes (task w.fiber) t (Some w.mailbox) None (λ v. let h : (task w.fiber == t) ≡ true = is_same (task w.fiber) t (sym v) in let z : false ≡ true = sym other ∙ h in absurd cc)
-            ∙ (a.at t less ∙ ap (λ b. if b then Some w.mailbox else parked_box task (drop (k + 1) ws) t) (sym other))
+            get_or-set_other boxes (task w.fiber) t (Some (box_of w.waits)) None (λ v. let h : (task w.fiber == t) ≡ true = is_same (task w.fiber) t (sym v) in let z : false ≡ true = sym other ∙ h in absurd cc)
+            ∙ (a.at t less ∙ ap (λ b. if b then Some (box_of w.waits) else parked_box task (drop (k + 1) ws) t) (sym other))
       ]
 
   closing_apart : (ws : List (Waiter F)) (t n : ℕ) → closing task ws t (suc n) ≡ closing task ws t n ++ wait_entry (t + n) (parked_box task ws (t + n))
@@ -213,10 +210,18 @@ roomy_as b b' r s ready parked =
 pub room_kept : (m n : ℕ) → n ≡ m → m ≤ n
 room_kept m n e = omega arith
 
--- room in the journal and in the mailbox is enough for a put
+-- room in the journal and in the mailbox is enough for a put and for a bound
 pub room_put : {T E F : Type 0} (r : Result T E) (b : kept.Board F) (w : Wants F) (box : BoxName) (tree : Tree) (shape : List Token) → w ≡ wants.Put box tree shape → length b.journal.items < vec_capacity b.journal → OnOk r (HasRoom b.mailboxes box) → OnOk r (RoomFor b w)
 room_put (Ok v) b w box tree shape is lt h = subst (RoomFor b) (sym is) (lt, h)
 room_put (Err e) b w box tree shape is lt h = tt
+
+pub room_wait : {T E F : Type 0} (r : Result T E) (b : kept.Board F) (w : Wants F) (box : BoxName) (tree : Tree) (shape : List Token) → w ≡ wants.PutWait box tree shape → length b.journal.items < vec_capacity b.journal → HasRoom b.mailboxes box → OnOk r (RoomFor b w)
+room_wait (Ok v) b w box tree shape is lt h = subst (RoomFor b) (sym is) (lt, h)
+room_wait (Err e) b w box tree shape is lt h = tt
+
+pub room_bound : {T E F : Type 0} (r : Result T E) (b : kept.Board F) (w : Wants F) (box : BoxName) (most : ℕ) → w ≡ wants.Bound box most → length b.journal.items < vec_capacity b.journal → OnOk r (HasRoom b.mailboxes box) → OnOk r (RoomFor b w)
+room_bound (Ok v) b w box most is lt h = subst (RoomFor b) (sym is) (lt, h)
+room_bound (Err e) b w box most is lt h = tt
 
 pub room_take : {T E F : Type 0} (r : Result T E) (b : kept.Board F) (w : Wants F) (box : BoxName) → w ≡ wants.Take box → length b.journal.items < vec_capacity b.journal → OnOk r (RoomFor b w)
 room_take (Ok v) b w box is lt = subst (RoomFor b) (sym is) lt
@@ -227,12 +232,15 @@ pub room_start : {T E F : Type 0} (r : Result T E) (b : kept.Board F) (w : Wants
 room_start (Ok v) b w f shape is lt ready parked = subst (RoomFor b) (sym is) (lt, ready, parked)
 room_start (Err e) b w f shape is lt ready parked = tt
 
--- where neither a message is put nor a task started, room in the journal is enough
-pub room_else : {F : Type 0} (b : kept.Board F) (w : Wants F) → ((box : BoxName) (tree : Tree) (shape : List Token) → w ≡ wants.Put box tree shape → ⊥) → ((f : F) (shape : List Token) → w ≡ wants.Start f shape → ⊥) → length b.journal.items < vec_capacity b.journal → RoomFor b w
-room_else b (wants.Put box tree shape) no-put no-start lt = absurd (no-put box tree shape refl)
-room_else b (wants.Start f shape) no-put no-start lt = absurd (no-start f shape refl)
-room_else b (wants.Take box) no-put no-start lt = lt
-room_else b (wants.Probe box) no-put no-start lt = lt
-room_else b (wants.Print shape) no-put no-start lt = lt
-room_else b (wants.Rest waits) no-put no-start lt = tt
-room_else b (wants.End why) no-put no-start lt = lt
+-- where neither a message is put nor a mailbox bounded nor a task started, room in the journal is enough
+pub room_else : {F : Type 0} (b : kept.Board F) (w : Wants F) → ((box : BoxName) (tree : Tree) (shape : List Token) → w ≡ wants.Put box tree shape → ⊥) → ((box : BoxName) (tree : Tree) (shape : List Token) → w ≡ wants.PutWait box tree shape → ⊥) → ((box : BoxName) (most : ℕ) → w ≡ wants.Bound box most → ⊥) →
+    ((f : F) (shape : List Token) → w ≡ wants.Start f shape → ⊥) → length b.journal.items < vec_capacity b.journal → RoomFor b w
+room_else b (wants.Put box tree shape) no-put no-wait no-bound no-start lt = absurd (no-put box tree shape refl)
+room_else b (wants.PutWait box tree shape) no-put no-wait no-bound no-start lt = absurd (no-wait box tree shape refl)
+room_else b (wants.Bound box most) no-put no-wait no-bound no-start lt = absurd (no-bound box most refl)
+room_else b (wants.Start f shape) no-put no-wait no-bound no-start lt = absurd (no-start f shape refl)
+room_else b (wants.Take box) no-put no-wait no-bound no-start lt = lt
+room_else b (wants.Probe box) no-put no-wait no-bound no-start lt = lt
+room_else b (wants.Print shape) no-put no-wait no-bound no-start lt = lt
+room_else b (wants.Rest waits) no-put no-wait no-bound no-start lt = tt
+room_else b (wants.End why) no-put no-wait no-bound no-start lt = lt

@@ -4,7 +4,7 @@ use Rattle.kilim_run_state.specs.declared.cause.EndCause.{EndCause}
 use Rattle.kilim_run_state.specs.declared.cause.EndCause.TheVariants as cause
 use Rattle.kilim_program.specs.declared.names.BoxName.{BoxName}
 use Rattle.kilim_run_state.specs.declared.value.Token.{Token}
-use Rattle.kilim_run_journal.specs.declared.entry.Act.TheVariants.{Put, Take, Empty, Start, Print, End}
+use Rattle.kilim_run_journal.specs.declared.entry.Act.TheVariants.{Put, Take, Empty, Start, Print, End, Bound}
 use Rattle.kilim_run_model.specs.State.{Setting}
 use Rattle.kilim_run_board.proofs.Replays.{some_injective}
 use Rattle.kilim_run_state.specs.Trees.{OfMessage, is_allowed, built}
@@ -14,7 +14,7 @@ use Rattle.kilim_run_model.specs.Lone.{Lone, Next, Goes, Puts, PutWaits, Bounds,
 use Rattle.kilim_run_model.specs.Course.{done_by, tree_came, plain}
 use Rattle.kilim_run_model.specs.declared.deed.Deed.{Deed}
 use Rattle.kilim_run_model.specs.Moving.{is_tasks}
-use Rattle.kilim_run_board.specs.fibers.Wishes.{Wish, ToPut, ToTake, ToProbe, ToStart, ToPrint, ToEnd, wish_of, end_wish}
+use Rattle.kilim_run_board.specs.fibers.Wishes.{Wish, ToPut, ToPutWait, ToBound, ToTake, ToProbe, ToStart, ToPrint, ToEnd, wish_of, end_wish}
 
 pub end_is : (why : EndCause) (w : Wish) → end_wish why ≡ Some w → (w ≡ ToEnd why) × (is_tasks why ≡ false)
 end_is cause.Tasks w e = absurd (cc)
@@ -38,15 +38,22 @@ IsDone set n d = (last : Lone) × (done_by set n d ≡ Some (record { act = d.ac
 
 abbrev shape_in : List Token → Wish → List Token
 shape_in other (ToPut box shape) = shape
+shape_in other (ToPutWait box shape) = shape
 shape_in other (ToStart shape) = shape
 shape_in other (ToPrint shape) = shape
 shape_in other w = other
 
 abbrev box_in : BoxName → Wish → BoxName
 box_in other (ToPut box shape) = box
+box_in other (ToPutWait box shape) = box
+box_in other (ToBound box most) = box
 box_in other (ToTake box) = box
 box_in other (ToProbe box) = box
 box_in other w = other
+
+abbrev most_in : ℕ → Wish → ℕ
+most_in other (ToBound box most) = most
+most_in other w = other
 
 abbrev cause_in : Wish → EndCause
 cause_in (ToEnd why) = why
@@ -67,6 +74,38 @@ put_done set (Starts r s l) box shape k e = absurd (cc)
 put_done set (Prints s l) box shape k e = absurd (cc)
 put_done set (Ends why l) box shape k e = absurd (let h = (end_is why _ e).0 in cc)
 put_done set Stands box shape k e = absurd (cc)
+
+pub waiting_done : (set : Setting) (n : Next) (box : BoxName) (shape : List Token) (k : ℕ) → wish_of n ≡ Some (ToPutWait box shape) → IsDone set n (plain (Put box k shape))
+waiting_done set (Goes l) box shape k e = absurd (cc)
+waiting_done set (Puts b r s l) box shape k e = absurd (cc)
+waiting_done set (PutWaits b r s l) box shape k e =
+    let w : ToPutWait b s ≡ ToPutWait box shape = some_injective (ToPutWait b s) (ToPutWait box shape) e in
+    let same-box : b ≡ box = ap (box_in b) w in
+    let same-shape : s ≡ shape = ap (shape_in s) w in
+    subst (λ x. IsDone set (PutWaits x r s l) (plain (Put box k shape))) (sym same-box) (subst (λ y. IsDone set (PutWaits box r y l) (plain (Put box k shape))) (sym same-shape) (_, refl))
+waiting_done set (Bounds b most l) box shape k e = absurd (cc)
+waiting_done set (Gets b l) box shape k e = absurd (cc)
+waiting_done set (Probes b l) box shape k e = absurd (cc)
+waiting_done set (Starts r s l) box shape k e = absurd (cc)
+waiting_done set (Prints s l) box shape k e = absurd (cc)
+waiting_done set (Ends why l) box shape k e = absurd (let h = (end_is why _ e).0 in cc)
+waiting_done set Stands box shape k e = absurd (cc)
+
+-- what bounds a mailbox by itself
+pub bounds_next : (n : Next) (box : BoxName) (most : ℕ) → wish_of n ≡ Some (ToBound box most) → (after : Lone) × (n ≡ Bounds box most after)
+bounds_next (Goes l) box most e = absurd (cc)
+bounds_next (Puts b r s l) box most e = absurd (cc)
+bounds_next (PutWaits b r s l) box most e = absurd (cc)
+bounds_next (Bounds b m l) box most e = let w : ToBound b m ≡ ToBound box most = some_injective (ToBound b m) (ToBound box most) e in (l, ap (λ x. Bounds x m l) (ap (box_in b) w) ∙ ap (λ y. Bounds box y l) (ap (most_in m) w))
+bounds_next (Gets b l) box most e = absurd (cc)
+bounds_next (Probes b l) box most e = absurd (cc)
+bounds_next (Starts r s l) box most e = absurd (cc)
+bounds_next (Prints s l) box most e = absurd (cc)
+bounds_next (Ends why l) box most e = absurd (let h = (end_is why _ e).0 in cc)
+bounds_next Stands box most e = absurd (cc)
+
+pub bound_done : (set : Setting) (n : Next) (box : BoxName) (most : ℕ) → wish_of n ≡ Some (ToBound box most) → IsDone set n (plain (Bound box most))
+bound_done set n box most e = let h = bounds_next n box most e in subst (λ x. IsDone set x (plain (Bound box most))) (sym h.1) (h.0, refl)
 
 tree_done : (set : Setting) (b box : BoxName) (l : Lone) (shape : List Token) (k : ℕ) → b ≡ box → is_allowed set.program OfMessage shape ≡ true → IsDone set (Gets b l) (record { act = Take box k; taken = shape })
 tree_done set b box l shape k same allowed =

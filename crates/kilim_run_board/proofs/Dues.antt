@@ -1,16 +1,16 @@
--- What a put and a take change of what is due, and what is due where a task has to wait.
+-- What a put, a take and a bound change of what is due, and what is due where a task has to wait.
 use Rattle.std.proofs.Common.{◌≡◌, ℕ, zero, suc, ◌+◌, ◌-◌, ◌≤◌, Bool, true, false, List, [], ◌∷◌, ◌++◌, Option, Some, None, length, refl, sym, ap, ◌∙◌, ◌⊎◌, inl, inr, arith}
 use Rattle.std.specs.Prelude.{is_some, if◌then◌else◌}
 use Rattle.std.proofs.lemmas.Bool.Decides.{nat_tests}
 use Rattle.kilim_program.specs.declared.names.BoxName.{BoxName}
 use Rattle.kilim_run_state.specs.declared.value.Token.{Token}
-use Rattle.kilim_run_model.specs.State.{same_box, with_mailbox, with_message, with_queue, is_full, is_full_at}
+use Rattle.kilim_run_model.specs.State.{same_box, bounded, with_mailbox, with_message, with_queue, is_full, is_full_at}
 use Rattle.kilim_run_model.specs.declared.waits.Waits.{Waits}
 use Rattle.kilim_run_model.specs.declared.waits.Waits.TheVariants as wait
 use Rattle.kilim_run_board.specs.Places.{same_wait, is_at}
 use Rattle.kilim_run_board.specs.Board.{may_wait, room_at, due_in}
 use Rattle.kilim_run_board.specs.waiting.Mailboxes.{Post}
-use Rattle.kilim_run_board.proofs.Places.{Changes, bit}
+use Rattle.kilim_run_board.proofs.Places.{Changes, Leaves, bit}
 use Rattle.kilim_run_board.proofs.waiting.Names.{both_ways, same_name, box_itself}
 use Rattle.kilim_run_board.proofs.waiting.Lists.{length_pushed}
 
@@ -157,3 +157,22 @@ module _ (stopped : Bool) (posts : BoxName → Post) (box : BoxName) where
       away = stands_apart s (wait.Take box) (wait.Put box) stands refl;
       one = let e : roomy (with_mailbox posts box took_post box) ≡ roomy took_post = ap roomy (here took_post box (box_itself box)) in let f = one_freed stopped in omega arith;
     }
+
+  -- ---- a bound
+
+  module _ (most : ℕ) (s : Option Waits) (stands : s ≡ None) where
+    abbrev bound_post : Post
+    bound_post = bounded (posts box) most
+
+    same_queue : (b : BoxName) → queued (with_mailbox posts box bound_post b) ≡ queued (posts b)
+    same_queue b = elim (both_ways (same_box b box)) [
+      | inl is ↦ ap queued (here bound_post b is) ∙ ap (λ z. queued (posts z)) (sym (same_name b box is))
+      | inr isnt ↦ ap queued (there bound_post b isnt)
+    ]
+
+    bound_others : (w : Waits) → same_wait w (wait.Put box) ≡ false → (due_in stopped (with_mailbox posts box bound_post) w + bit (is_at s w) ≤ due_in stopped posts w) ⊎ (due_in stopped (with_mailbox posts box bound_post) w ≤ 0)
+    bound_others (wait.Take b) apart = inl (let e = same_queue b in let far : bit (is_at s (wait.Take b)) ≡ 0 = ap (λ o. bit (is_at o (wait.Take b))) stands in omega arith)
+    bound_others (wait.Put b) apart = inl (elsewhere bound_post s (wait.Put box) (inl stands) roomy b (wait.Put b) apart apart)
+
+    pub bound_leaves : Leaves (may_wait posts) (may_wait (with_mailbox posts box bound_post)) (due_in stopped posts) (due_in stopped (with_mailbox posts box bound_post)) s (wait.Put box)
+    bound_leaves = record { still = may_stay bound_post (λ e. refl); others = bound_others }

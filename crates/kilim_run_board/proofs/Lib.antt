@@ -4,6 +4,7 @@ pub mod Allowed
 pub mod Replays
 pub mod Seats
 pub mod Deeds
+pub mod Fresh
 pub mod Boards
 pub mod Calls
 pub mod Closing

@@ -6,8 +6,7 @@ use Rattle.std.proofs.lemmas.List.Sums.{sum_by-cons}
 use Rattle.std.proofs.lemmas.List.Sorted.{sum_by-IsPermutation}
 use Rattle.std.specs.Prelude.{IsPermutation}
 use Rattle.kilim_run_model.specs.declared.waits.Waits.{Waits}
-use Rattle.kilim_run_model.specs.declared.waits.Waits.TheVariants as wait
-use Rattle.kilim_run_board.proofs.waiting.Names.{both_ways, same_name, box_itself}
+use Rattle.kilim_run_board.proofs.waiting.Names.{both_ways, one_wait, wait_itself}
 use Rattle.kilim_run_board.specs.Places.{same_wait, Spot, Ready, Lent, Parked, Place, is_task, is_out_spot, is_out, is_parked_spot, is_parked_at, is_at, is_astray_in, is_astray, is_coming, Stood}
 use Rattle.std.proofs.lemmas.Bool.Decides.{nat_tests}
 
@@ -52,16 +51,6 @@ fewer p q less (x ∷ xs) =
     ]
 
 -- ---- what is waited for
-
-pub one_wait : (v w : Waits) → same_wait v w ≡ true → v ≡ w
-one_wait (wait.Take a) (wait.Take b) e = ap wait.Take (same_name a b e)
-one_wait (wait.Put a) (wait.Put b) e = ap wait.Put (same_name a b e)
-one_wait (wait.Take a) (wait.Put b) e = absurd (cc)
-one_wait (wait.Put a) (wait.Take b) e = absurd (cc)
-
-pub wait_itself : (w : Waits) → same_wait w w ≡ true
-wait_itself (wait.Take box) = box_itself box
-wait_itself (wait.Put box) = box_itself box
 
 -- where a task stands is one place
 pub one_place : (s : Option Waits) (w : Waits) → is_at s w ≡ true → s ≡ Some w

@@ -20,11 +20,11 @@ use Rattle.kilim_run_board.proofs.waiting.Names.{both_ways, same_name}
 
 -- ---- options
 
-if_some : (y : Bool) (x last : Books) → (if y then Some x else None) ≡ Some last → (y ≡ true) × (x ≡ last)
+pub if_some : (y : Bool) (x last : Books) → (if y then Some x else None) ≡ Some last → (y ≡ true) × (x ≡ last)
 if_some true x last e = (refl, let f : Some x ≡ Some last = e in cc)
 if_some false x last e = absurd (cc)
 
-if_none : (y : Bool) (x last : Books) → (if y then None else Some x) ≡ Some last → x ≡ last
+pub if_none : (y : Bool) (x last : Books) → (if y then None else Some x) ≡ Some last → x ≡ last
 if_none true x last e = absurd (cc)
 if_none false x last e = let f : Some x ≡ Some last = e in cc
 
@@ -32,7 +32,7 @@ both_true : (a b : Bool) → (a && b) ≡ true → (a ≡ true) × (b ≡ true)
 both_true true b e = (refl, e)
 both_true false b e = absurd (cc)
 
-bind_some : {A B : Type 0} (o : Option A) (f : A → Option B) (y : B) → (o >>= f) ≡ Some y → (x : A) × (o ≡ Some x) × (f x ≡ Some y)
+pub bind_some : {A B : Type 0} (o : Option A) (f : A → Option B) (y : B) → (o >>= f) ≡ Some y → (x : A) × (o ≡ Some x) × (f x ≡ Some y)
 bind_some None f y e = absurd (cc)
 bind_some (Some x) f y e = (x, refl, e)
 

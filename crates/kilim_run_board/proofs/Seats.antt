@@ -4,10 +4,8 @@ use Rattle.std.specs.Prelude.{length, slice_get, slice_set, count_by, IsPermutat
 use Rattle.std.specs.List.{AllByRecursion}
 use Rattle.std.proofs.lemmas.List.Sums.{sum_by-append}
 use Rattle.std.proofs.lemmas.List.Sorted.{IsPermutation-refl, IsPermutation-sym, IsPermutation-trans, IsPermutation-cons, IsPermutation-middle, IsPermutation-append_left, IsPermutation-append_right}
-use Rattle.kilim_program.specs.declared.names.BoxName.{BoxName}
-use Rattle.kilim_run_model.specs.State.{same_box}
-use Rattle.kilim_run_model.specs.declared.waits.Waits.TheVariants as wait
-use Rattle.kilim_run_board.specs.Places.{Ready, Lent, Parked, Place, is_parked_at}
+use Rattle.kilim_run_model.specs.declared.waits.Waits.{Waits}
+use Rattle.kilim_run_board.specs.Places.{Ready, Lent, Parked, Place, is_parked_at, same_wait}
 use Rattle.kilim_run_board.specs.Board.{lent_of, ready_of, parked_of, places_of}
 use Rattle.kilim_run_board.specs.waiting.Parked.{woken}
 use Rattle.kilim_run_board.specs.declared.waiting.parked.Waiter.{Waiter}
@@ -22,8 +20,8 @@ lent_place t = record { spot = Lent; task = t }
 abbrev ready_place : ℕ → Place
 ready_place t = record { spot = Ready; task = t }
 
-abbrev parked_place : BoxName → ℕ → Place
-parked_place box t = record { spot = Parked (wait.Take box); task = t }
+abbrev parked_place : Waits → ℕ → Place
+parked_place v t = record { spot = Parked v; task = t }
 
 abbrev bit : Bool → ℕ
 bit b = cond b 1 0
@@ -134,81 +132,81 @@ module _ {F : Type 0} (task : F → ℕ) where
 
   parked_apart : (ws vs : List (Waiter F)) → parked_of task (ws ++ vs) ≡ parked_of task ws ++ parked_of task vs
   parked_apart [] vs = refl
-  parked_apart (w ∷ ws) vs = ap (λ l. parked_place w.mailbox (task w.fiber) ∷ l) (parked_apart ws vs)
+  parked_apart (w ∷ ws) vs = ap (λ l. parked_place w.waits (task w.fiber) ∷ l) (parked_apart ws vs)
 
   -- wherever it stands among them
-  one_more : (w : Waiter F) (ws ws' : List (Waiter F)) → StandsBehind w ws ws' → IsPermutation (parked_of task ws') (parked_place w.mailbox (task w.fiber) ∷ parked_of task ws)
+  one_more : (w : Waiter F) (ws ws' : List (Waiter F)) → StandsBehind w ws ws' → IsPermutation (parked_of task ws') (parked_place w.waits (task w.fiber) ∷ parked_of task ws)
   one_more w ws ws' s =
-      let here : Place = parked_place w.mailbox (task w.fiber) in
+      let here : Place = parked_place w.waits (task w.fiber) in
       let now : parked_of task ws' ≡ parked_of task s.before ++ here ∷ parked_of task s.after = ap (parked_of task) s.is ∙ parked_apart s.before (w ∷ s.after) in
       let old : parked_of task ws ≡ parked_of task s.before ++ parked_of task s.after = ap (parked_of task) s.was ∙ parked_apart s.before s.after in
       subst (λ l. IsPermutation (parked_of task ws') (here ∷ l)) (sym old) (subst (λ l. IsPermutation l (here ∷ (parked_of task s.before ++ parked_of task s.after))) (sym now) (IsPermutation-middle (parked_of task s.before) here (parked_of task s.after)))
 
   pub at_mailbox : (ready : List F) (cells : List (Option ℕ)) (parked parked' : List (Waiter F)) (w : Waiter F) → StandsBehind w parked parked' →
-      IsPermutation (parked_place w.mailbox (task w.fiber) ∷ places_of task ready cells parked) (places_of task ready cells parked')
+      IsPermutation (parked_place w.waits (task w.fiber) ∷ places_of task ready cells parked) (places_of task ready cells parked')
   at_mailbox ready cells parked parked' w s =
-      IsPermutation-sym _ _ (front_last (parked_place w.mailbox (task w.fiber)) ready (lent_of cells) (parked_of task parked') (parked_of task parked) (one_more w parked parked' s))
+      IsPermutation-sym _ _ (front_last (parked_place w.waits (task w.fiber)) ready (lent_of cells) (parked_of task parked') (parked_of task parked) (one_more w parked parked' s))
 
-  -- ---- the first that waits at a mailbox
+  -- ---- the first that waits for something
 
-  pub record IsWoken (box : BoxName) (ws : List (Waiter F)) (found : Waiter F × List (Waiter F)) : Type 0 where
-    pub at : same_box box found.0.mailbox ≡ true
-    pub moves : IsPermutation (parked_of task ws) (parked_place found.0.mailbox (task found.0.fiber) ∷ parked_of task found.1)
+  pub record IsWoken (v : Waits) (ws : List (Waiter F)) (found : Waiter F × List (Waiter F)) : Type 0 where
+    pub at : same_wait v found.0.waits ≡ true
+    pub moves : IsPermutation (parked_of task ws) (parked_place found.0.waits (task found.0.fiber) ∷ parked_of task found.1)
 
-  woken_later : (box : BoxName) (w : Waiter F) (ws : List (Waiter F)) (found : Waiter F × List (Waiter F)) → IsWoken box ws found → IsWoken box (w ∷ ws) (found.0, w ∷ found.1)
-  woken_later box w ws found is = record {
+  woken_later : (v : Waits) (w : Waiter F) (ws : List (Waiter F)) (found : Waiter F × List (Waiter F)) → IsWoken v ws found → IsWoken v (w ∷ ws) (found.0, w ∷ found.1)
+  woken_later v w ws found is = record {
     at = is.at;
-    moves = IsPermutation-trans _ _ _ (IsPermutation-cons (parked_place w.mailbox (task w.fiber)) (parked_of task ws) (parked_place found.0.mailbox (task found.0.fiber) ∷ parked_of task found.1) is.moves)
-        (second (parked_place w.mailbox (task w.fiber)) (parked_place found.0.mailbox (task found.0.fiber)) (parked_of task found.1));
+    moves = IsPermutation-trans _ _ _ (IsPermutation-cons (parked_place w.waits (task w.fiber)) (parked_of task ws) (parked_place found.0.waits (task found.0.fiber) ∷ parked_of task found.1) is.moves)
+        (second (parked_place w.waits (task w.fiber)) (parked_place found.0.waits (task found.0.fiber)) (parked_of task found.1));
   }
 
   abbrev picked : Waiter F → List (Waiter F) → Option (Waiter F × List (Waiter F)) → Bool → Option (Waiter F × List (Waiter F))
   picked w ws o b = if b then Some (w, ws) else elim o [ None ↦ None | Some found ↦ Some (found.0, w ∷ found.1) ]
 
-  pub woken_is : (box : BoxName) (ws : List (Waiter F)) (found : Waiter F × List (Waiter F)) → woken box ws ≡ Some found → IsWoken box ws found
-  woken_is box [] found e = absurd (cc)
-  woken_is box (w ∷ ws) found e = elim (both_ways (same_box box w.mailbox)) [
+  pub woken_is : (v : Waits) (ws : List (Waiter F)) (found : Waiter F × List (Waiter F)) → woken v ws ≡ Some found → IsWoken v ws found
+  woken_is v [] found e = absurd (cc)
+  woken_is v (w ∷ ws) found e = elim (both_ways (same_wait v w.waits)) [
     | inl is ↦
-        let s : (w, ws) ≡ found = some_is (w, ws) found (sym (ap (picked w ws (woken box ws)) is) ∙ e) in
-        subst (λ x. IsWoken box (w ∷ ws) x) s (record { at = is; moves = IsPermutation-refl (parked_place w.mailbox (task w.fiber) ∷ parked_of task ws) })
-    | inr isnt ↦ below (woken box ws) refl (λ x g. woken_is box ws x g) (sym (ap (picked w ws (woken box ws)) isnt) ∙ e)
+        let s : (w, ws) ≡ found = some_is (w, ws) found (sym (ap (picked w ws (woken v ws)) is) ∙ e) in
+        subst (λ x. IsWoken v (w ∷ ws) x) s (record { at = is; moves = IsPermutation-refl (parked_place w.waits (task w.fiber) ∷ parked_of task ws) })
+    | inr isnt ↦ below (woken v ws) refl (λ x g. woken_is v ws x g) (sym (ap (picked w ws (woken v ws)) isnt) ∙ e)
   ]
     where
       some_is : (x y : Waiter F × List (Waiter F)) → Some x ≡ Some y → x ≡ y
       some_is x y e = cc
 
-      below : (o : Option (Waiter F × List (Waiter F))) → woken box ws ≡ o → ((x : Waiter F × List (Waiter F)) → woken box ws ≡ Some x → IsWoken box ws x) → picked w ws o false ≡ Some found → IsWoken box (w ∷ ws) found
+      below : (o : Option (Waiter F × List (Waiter F))) → woken v ws ≡ o → ((x : Waiter F × List (Waiter F)) → woken v ws ≡ Some x → IsWoken v ws x) → picked w ws o false ≡ Some found → IsWoken v (w ∷ ws) found
       below None g again e = absurd (cc)
-      below (Some x) g again e = subst (λ y. IsWoken box (w ∷ ws) y) (some_is (x.0, w ∷ x.1) found e) (woken_later box w ws x (again x g))
+      below (Some x) g again e = subst (λ y. IsWoken v (w ∷ ws) y) (some_is (x.0, w ∷ x.1) found e) (woken_later v w ws x (again x g))
 
-  pub woken_all : (P : Waiter F → Type 0) (box : BoxName) (ws : List (Waiter F)) (found : Waiter F × List (Waiter F)) → woken box ws ≡ Some found → AllByRecursion P ws → P found.0 × AllByRecursion P found.1
-  woken_all P box [] found e all = absurd (cc)
-  woken_all P box (w ∷ ws) found e all = elim (both_ways (same_box box w.mailbox)) [
-    | inl is ↦ subst (λ (x : Waiter F × List (Waiter F)). P x.0 × AllByRecursion P x.1) (some_is (w, ws) found (sym (ap (picked w ws (woken box ws)) is) ∙ e)) all
-    | inr isnt ↦ below (woken box ws) refl (λ x g. woken_all P box ws x g all.1) (sym (ap (picked w ws (woken box ws)) isnt) ∙ e)
+  pub woken_all : (P : Waiter F → Type 0) (v : Waits) (ws : List (Waiter F)) (found : Waiter F × List (Waiter F)) → woken v ws ≡ Some found → AllByRecursion P ws → P found.0 × AllByRecursion P found.1
+  woken_all P v [] found e all = absurd (cc)
+  woken_all P v (w ∷ ws) found e all = elim (both_ways (same_wait v w.waits)) [
+    | inl is ↦ subst (λ (x : Waiter F × List (Waiter F)). P x.0 × AllByRecursion P x.1) (some_is (w, ws) found (sym (ap (picked w ws (woken v ws)) is) ∙ e)) all
+    | inr isnt ↦ below (woken v ws) refl (λ x g. woken_all P v ws x g all.1) (sym (ap (picked w ws (woken v ws)) isnt) ∙ e)
   ]
     where
       some_is : (x y : Waiter F × List (Waiter F)) → Some x ≡ Some y → x ≡ y
       some_is x y e = cc
 
-      below : (o : Option (Waiter F × List (Waiter F))) → woken box ws ≡ o → ((x : Waiter F × List (Waiter F)) → woken box ws ≡ Some x → P x.0 × AllByRecursion P x.1) → picked w ws o false ≡ Some found → P found.0 × AllByRecursion P found.1
+      below : (o : Option (Waiter F × List (Waiter F))) → woken v ws ≡ o → ((x : Waiter F × List (Waiter F)) → woken v ws ≡ Some x → P x.0 × AllByRecursion P x.1) → picked w ws o false ≡ Some found → P found.0 × AllByRecursion P found.1
       below None g again e = absurd (cc)
       below (Some x) g again e = let h = again x g in subst (λ (y : Waiter F × List (Waiter F)). P y.0 × AllByRecursion P y.1) (some_is (x.0, w ∷ x.1) found e) (h.0, (all.0, h.1))
 
-  pub nobody_waits : (box : BoxName) (ws : List (Waiter F)) → woken box ws ≡ None → count_by (is_parked_at (wait.Take box)) (parked_of task ws) ≡ 0
-  nobody_waits box [] e = refl
-  nobody_waits box (w ∷ ws) e = elim (both_ways (same_box box w.mailbox)) [
-    | inl is ↦ absurd (let h : Some (w, ws) ≡ None = sym (ap (picked w ws (woken box ws)) is) ∙ e in cc)
-    | inr isnt ↦ below (woken box ws) refl isnt (λ g. nobody_waits box ws g) (sym (ap (picked w ws (woken box ws)) isnt) ∙ e)
+  pub nobody_waits : (v : Waits) (ws : List (Waiter F)) → woken v ws ≡ None → count_by (is_parked_at v) (parked_of task ws) ≡ 0
+  nobody_waits v [] e = refl
+  nobody_waits v (w ∷ ws) e = elim (both_ways (same_wait v w.waits)) [
+    | inl is ↦ absurd (let h : Some (w, ws) ≡ None = sym (ap (picked w ws (woken v ws)) is) ∙ e in cc)
+    | inr isnt ↦ below (woken v ws) refl isnt (λ g. nobody_waits v ws g) (sym (ap (picked w ws (woken v ws)) isnt) ∙ e)
   ]
     where
-      below : (o : Option (Waiter F × List (Waiter F))) → woken box ws ≡ o → same_box box w.mailbox ≡ false → (woken box ws ≡ None → count_by (is_parked_at (wait.Take box)) (parked_of task ws) ≡ 0) → picked w ws o false ≡ None → count_by (is_parked_at (wait.Take box)) (parked_of task (w ∷ ws)) ≡ 0
+      below : (o : Option (Waiter F × List (Waiter F))) → woken v ws ≡ o → same_wait v w.waits ≡ false → (woken v ws ≡ None → count_by (is_parked_at v) (parked_of task ws) ≡ 0) → picked w ws o false ≡ None → count_by (is_parked_at v) (parked_of task (w ∷ ws)) ≡ 0
       below None g isnt again e =
-          let f : count_by (is_parked_at (wait.Take box)) (parked_place w.mailbox (task w.fiber) ∷ parked_of task ws) ≡ bit (same_box box w.mailbox) + count_by (is_parked_at (wait.Take box)) (parked_of task ws) = front (is_parked_at (wait.Take box)) (parked_place w.mailbox (task w.fiber)) (parked_of task ws) in
+          let f : count_by (is_parked_at v) (parked_place w.waits (task w.fiber) ∷ parked_of task ws) ≡ bit (same_wait v w.waits) + count_by (is_parked_at v) (parked_of task ws) = front (is_parked_at v) (parked_place w.waits (task w.fiber)) (parked_of task ws) in
           let h = again g in
-          let z : bit (same_box box w.mailbox) ≡ 0 = ap bit isnt in omega arith
+          let z : bit (same_wait v w.waits) ≡ 0 = ap bit isnt in omega arith
       below (Some x) g isnt again e = absurd (cc)
 
-  pub at_the_front : (ready : List F) (cells : List (Option ℕ)) (box : BoxName) (ws : List (Waiter F)) (found : Waiter F × List (Waiter F)) → IsWoken box ws found →
-      IsPermutation (places_of task ready cells ws) (parked_place found.0.mailbox (task found.0.fiber) ∷ places_of task ready cells found.1)
-  at_the_front ready cells box ws found is = front_last (parked_place found.0.mailbox (task found.0.fiber)) ready (lent_of cells) (parked_of task ws) (parked_of task found.1) is.moves
+  pub at_the_front : (ready : List F) (cells : List (Option ℕ)) (v : Waits) (ws : List (Waiter F)) (found : Waiter F × List (Waiter F)) → IsWoken v ws found →
+      IsPermutation (places_of task ready cells ws) (parked_place found.0.waits (task found.0.fiber) ∷ places_of task ready cells found.1)
+  at_the_front ready cells v ws found is = front_last (parked_place found.0.waits (task found.0.fiber)) ready (lent_of cells) (parked_of task ws) (parked_of task found.1) is.moves

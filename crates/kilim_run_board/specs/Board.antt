@@ -6,9 +6,9 @@ use Rattle.kilim_program.specs.Program.{Program}
 use Rattle.kilim_program.specs.declared.names.BoxName.{BoxName}
 use Rattle.kilim_run_state.specs.declared.value.Token.{Token}
 use Rattle.kilim_run_journal.specs.declared.entry.Act.{Act}
-use Rattle.kilim_run_journal.specs.declared.entry.Act.TheVariants.{Put, Take, Start, End}
+use Rattle.kilim_run_journal.specs.declared.entry.Act.TheVariants.{Put, Take, Start, End, Bound}
 use Rattle.kilim_run_journal.specs.declared.entry.Entry.{Entry}
-use Rattle.kilim_run_model.specs.State.{Setting, with_mailbox, with_message, with_queue}
+use Rattle.kilim_run_model.specs.State.{Setting, bounded, with_mailbox, with_message, with_queue}
 use Rattle.kilim_run_model.specs.Runs.{wait_entry}
 use Rattle.kilim_run_board.specs.declared.waiting.parked.Waiter.{Waiter}
 use Rattle.kilim_run_board.specs.Places.{Ready, Lent, Parked, Place, Stood}
@@ -30,7 +30,7 @@ pub record Board (F : Type 0) : Type 0 where
   pub tasks : ℕ
   -- the fibers that are ready, the first to be lent in front
   pub ready : List F
-  -- those that wait at a mailbox, of each mailbox the first that came in front
+  -- those that wait at a mailbox, of those that wait for the same the first that came in front
   pub parked : List (Waiter F)
   -- the task that is lent to each seat
   pub cells : List (Option ℕ)
@@ -50,7 +50,7 @@ ready_of task (f ∷ fs) = record { spot = Ready; task = task f } ∷ ready_of t
 
 abbrev pub parked_of : {F : Type 0} → (F → ℕ) → List (Waiter F) → List Place
 parked_of task [] = []
-parked_of task (w ∷ ws) = record { spot = Parked (wait.Take w.mailbox); task = task w.fiber } ∷ parked_of task ws
+parked_of task (w ∷ ws) = record { spot = Parked w.waits; task = task w.fiber } ∷ parked_of task ws
 
 abbrev pub places_of : {F : Type 0} → (F → ℕ) → List F → List (Option ℕ) → List (Waiter F) → List Place
 places_of task ready cells parked = ready_of task ready ++ (lent_of cells ++ parked_of task parked)
@@ -156,10 +156,10 @@ pub record GivesBack {F : Type 0} (b : Board F) (seat : ℕ) (b' : Board F) (f :
   pub cells : b'.cells ≡ slice_set b.cells seat None
   pub stopped : b'.stopped ≡ b.stopped
 
-pub record Parks {F : Type 0} (b : Board F) (seat : ℕ) (b' : Board F) (f : F) (box : BoxName) : Type 0 where
+pub record Parks {F : Type 0} (b : Board F) (seat : ℕ) (b' : Board F) (f : F) (waits : Waits) : Type 0 where
   pub run : SameRun b b'
   pub ready : b'.ready ≡ b.ready
-  pub parked : StandsBehind (record { mailbox = box; fiber = f }) b.parked b'.parked
+  pub parked : StandsBehind (record { waits = waits; fiber = f }) b.parked b'.parked
   pub cells : b'.cells ≡ slice_set b.cells seat None
   pub stopped : b'.stopped ≡ b.stopped
 
@@ -170,23 +170,33 @@ pub record Stops {F : Type 0} (b : Board F) (seat : ℕ) (b' : Board F) : Type 0
   pub cells : b'.cells ≡ slice_set b.cells seat None
   pub stopped : b'.stopped ≡ true
 
--- A put: the message goes to the end of the queue with the count as its number, and the first that waits there
+-- A put: the message goes to the end of the queue with the count as its number, and the first that waits there to take
 -- is ready, at the back.
 pub record PutsMessage {F : Type 0} (b : Board F) (t : ℕ) (b' : Board F) (box : BoxName) (tree : Tree) (shape : List Token) : Type 0 where
   pub journal : NotedAs b b' t (Put box (b.mails box).puts shape)
   pub tasks : b'.tasks ≡ b.tasks
   pub mails : SameMails (with_mailbox b.mails box (with_message (b.mails box) tree)) b'.mails
-  pub ready : b'.ready ≡ ready_after b.ready (woken box b.parked)
-  pub parked : b'.parked ≡ parked_after b.parked (woken box b.parked)
+  pub ready : b'.ready ≡ ready_after b.ready (woken (wait.Take box) b.parked)
+  pub parked : b'.parked ≡ parked_after b.parked (woken (wait.Take box) b.parked)
   pub cells : b'.cells ≡ b.cells
   pub stopped : b'.stopped ≡ b.stopped
 
--- a take: the first message leaves the queue
+-- A take: the first message leaves the queue, and the first that waits there to put is ready, at the back.
 pub record TakesMessage {F : Type 0} (b : Board F) (t : ℕ) (b' : Board F) (box : BoxName) (n : ℕ) (tree : Tree) (rest : List (ℕ × Tree)) : Type 0 where
   pub journal : NotedAs b b' t (Take box n)
   pub tasks : b'.tasks ≡ b.tasks
   pub queue : (b.mails box).queue ≡ (n, tree) ∷ rest
   pub mails : SameMails (with_mailbox b.mails box (with_queue (b.mails box) rest)) b'.mails
+  pub ready : b'.ready ≡ ready_after b.ready (woken (wait.Put box) b.parked)
+  pub parked : b'.parked ≡ parked_after b.parked (woken (wait.Put box) b.parked)
+  pub cells : b'.cells ≡ b.cells
+  pub stopped : b'.stopped ≡ b.stopped
+
+-- a mailbox gets a bound
+pub record BoundsMailbox {F : Type 0} (b : Board F) (t : ℕ) (b' : Board F) (box : BoxName) (most : ℕ) : Type 0 where
+  pub journal : NotedAs b b' t (Bound box most)
+  pub tasks : b'.tasks ≡ b.tasks
+  pub mails : SameMails (with_mailbox b.mails box (bounded (b.mails box) most)) b'.mails
   pub spots : SameSpots b b'
 
 -- an act that changes the journal alone: a print, or the probe of an empty mailbox
@@ -218,10 +228,14 @@ pub record EndsTask {F : Type 0} (b : Board F) (seat t : ℕ) (b' : Board F) (wh
 
 -- ---- the close
 
+abbrev pub box_of : Waits → BoxName
+box_of (wait.Take box) = box
+box_of (wait.Put box) = box
+
 -- the mailbox at which a task is parked
 abbrev pub parked_box : {F : Type 0} → (F → ℕ) → List (Waiter F) → ℕ → Option BoxName
 parked_box task [] t = None
-parked_box task (w ∷ ws) t = if task w.fiber == t then Some w.mailbox else parked_box task ws t
+parked_box task (w ∷ ws) t = if task w.fiber == t then Some (box_of w.waits) else parked_box task ws t
 
 -- the mailboxes at which so many tasks are parked, by their numbers
 pub record AreBoxes {F : Type 0} (task : F → ℕ) (parked : List (Waiter F)) (tasks : ℕ) (boxes : List (Option BoxName)) : Type 0 where

@@ -1,4 +1,5 @@
 pub mod Places
+pub mod NewBounds
 pub mod Board
 pub mod Seen
 pub mod Laws

@@ -4,6 +4,7 @@ use Rattle.std.specs.Vec.{vec_capacity}
 use Rattle.std.specs.VecDeque.{deque_capacity}
 use Rattle.kilim_program.specs.declared.names.BoxName.{BoxName}
 use Rattle.kilim_run_model.specs.State.{is_full}
+use Rattle.kilim_run_model.specs.declared.waits.Waits.{Waits}
 use Rattle.kilim_run_board.specs.declared.board.Board as kept
 use Rattle.kilim_run_board.specs.declared.board.Lent.{Lent}
 use Rattle.kilim_run_board.specs.declared.board.Lent.TheVariants as lent
@@ -19,13 +20,14 @@ use Rattle.kilim_run_board.specs.fibers.Fibers.{NewCourse, Fits, course_after}
 use Rattle.kilim_run_board.specs.declared.fibers.Wants.{Wants}
 use Rattle.kilim_run_board.specs.declared.fibers.Wants.TheVariants as wants
 use Rattle.kilim_run_board.specs.declared.fibers.Answer.TheVariants as answer
-use Rattle.kilim_run_board.specs.waiting.Mailboxes.{Tree, mail_of, HasRoom}
-use Rattle.kilim_run_board.specs.Board.{Board, lent_of, Lends, GivesBack, Parks, SameRun, SameSpots, PutsMessage, TakesMessage, Notes, StartsTask, EndsTask}
+use Rattle.kilim_run_board.specs.waiting.Mailboxes.{Tree, mail_of, has_to_wait, HasRoom}
+use Rattle.kilim_run_board.specs.Board.{Board, lent_of, Lends, GivesBack, Parks, SameRun, SameSpots, PutsMessage, TakesMessage, BoundsMailbox, Notes, StartsTask, EndsTask}
+use Rattle.kilim_run_board.specs.NewBounds.{BoundsAreNew}
 use Rattle.kilim_run_model.specs.Lone.{Lone}
 use Rattle.kilim_run_model.specs.Course.{Course}
 use Rattle.kilim_run_model.specs.declared.deed.Deed.{Deed}
 use Rattle.kilim_run_model.specs.Moving.{Books, books_from, first_books, Moving, MovedReplay, MovedAtRest}
-use Rattle.kilim_run_board.specs.fibers.Wishes.{IsMessage, Wish, ToPut, ToTake, ToProbe, ToStart, ToPrint, ToEnd, Wishes}
+use Rattle.kilim_run_board.specs.fibers.Wishes.{IsMessage, Wish, ToPut, ToPutWait, ToBound, ToTake, ToProbe, ToStart, ToPrint, ToEnd, Wishes}
 use Rattle.kilim_run_model.specs.declared.deed.Beginning.TheVariants.{Begun}
 
 abbrev pub seen : {F : Type 0} → kept.Board F → Board F
@@ -52,16 +54,16 @@ pub record SameBoard {F : Type 0} (b b' : Board F) : Type 0 where
   pub run : SameRun b b'
   pub spots : SameSpots b b'
 
-abbrev pub gives_at : {F : Type 0} → Bool → Board F → ℕ → Board F → F → BoxName → Type 0
-gives_at true b seat b' f box = Parks b seat b' f box
-gives_at false b seat b' f box = GivesBack b seat b' f
+abbrev pub gives_at : {F : Type 0} → Bool → Board F → ℕ → Board F → F → Waits → Type 0
+gives_at true b seat b' f waits = Parks b seat b' f waits
+gives_at false b seat b' f waits = GivesBack b seat b' f
 
-abbrev pub GiveAnswers : {F : Type 0} → Board F → ℕ → Board F → F → Option BoxName → Type 0
+abbrev pub GiveAnswers : {F : Type 0} → Board F → ℕ → Board F → F → Option Waits → Type 0
 GiveAnswers b seat b' f None = GivesBack b seat b' f
-GiveAnswers b seat b' f (Some box) = gives_at (length (b.mails box).queue == 0) b seat b' f box
+GiveAnswers b seat b' f (Some waits) = gives_at (has_to_wait b.mails waits) b seat b' f waits
 
 -- the new fiber of a start has its task's number, and is else as it was
-pub record IsNumbered {F : Type 0} (task : F → ℕ) (course : F → Course) (count : F → ℕ) (refused : F → Option BoxName) (holds : Setting → F → Lone → Type 0) (f f' : F) (k : ℕ) : Type 0 where
+pub record IsNumbered {F : Type 0} (task : F → ℕ) (course : F → Course) (count : F → ℕ) (refused : F → Option Waits) (holds : Setting → F → Lone → Type 0) (f f' : F) (k : ℕ) : Type 0 where
   pub number : task f' ≡ k
   pub same : course f' ≡ course f
   pub counted : count f' ≡ count f
@@ -71,6 +73,9 @@ pub record IsNumbered {F : Type 0} (task : F → ℕ) (course : F → Course) (c
 abbrev pub ActAnswers : {F : Type 0} → (F → F → ℕ → Type 0) → Board F → (seat t : ℕ) → Board F → Wants F → Acted → Type 0
 ActAnswers numbered b seat t b' (wants.Put box tree shape) (acted.Answer (answer.Sent n)) = (n ≡ (b.mails box).puts) × (is_full (b.mails box) ≡ false) × PutsMessage b t b' box tree shape
 ActAnswers numbered b seat t b' (wants.Put box tree shape) acted.OutOfRoom = (is_full (b.mails box) ≡ true) × EndsTask b seat t b' cause.Full
+ActAnswers numbered b seat t b' (wants.PutWait box tree shape) (acted.Answer (answer.Sent n)) = (n ≡ (b.mails box).puts) × (is_full (b.mails box) ≡ false) × PutsMessage b t b' box tree shape
+ActAnswers numbered b seat t b' (wants.PutWait box tree shape) (acted.Answer (answer.Full back same)) = (is_full (b.mails box) ≡ true) × (back ≡ tree) × (same ≡ shape) × SameBoard b b'
+ActAnswers numbered b seat t b' (wants.Bound box most) (acted.Answer answer.Done) = BoundsMailbox b t b' box most
 ActAnswers numbered b seat t b' (wants.Take box) (acted.Answer (answer.Message tree n)) = (rest : List (ℕ × Tree)) × TakesMessage b t b' box n tree rest
 ActAnswers numbered b seat t b' (wants.Take box) (acted.Answer answer.Nothing) = ((b.mails box).queue ≡ []) × SameBoard b b'
 ActAnswers numbered b seat t b' (wants.Probe box) (acted.Answer (answer.Message tree n)) = (rest : List (ℕ × Tree)) × TakesMessage b t b' box n tree rest
@@ -84,6 +89,8 @@ ActAnswers numbered b seat t b' w a = ⊥
 -- there is room for the act
 abbrev pub RoomFor : {F : Type 0} → kept.Board F → Wants F → Type 0
 RoomFor b (wants.Put box tree shape) = (length b.journal.items < vec_capacity b.journal) × HasRoom b.mailboxes box
+RoomFor b (wants.PutWait box tree shape) = (length b.journal.items < vec_capacity b.journal) × HasRoom b.mailboxes box
+RoomFor b (wants.Bound box most) = (length b.journal.items < vec_capacity b.journal) × HasRoom b.mailboxes box
 RoomFor b (wants.Take box) = length b.journal.items < vec_capacity b.journal
 RoomFor b (wants.Probe box) = length b.journal.items < vec_capacity b.journal
 RoomFor b (wants.Start f shape) = (length b.journal.items < vec_capacity b.journal) × (b.tasks + 1 ≤ deque_capacity b.ready) × (b.tasks + 1 ≤ b.parked.room)
@@ -101,6 +108,16 @@ IsActable course count (wants.Start f shape) = (course f ≡ record { beginning 
 IsActable course count (wants.Rest waits) = ⊥
 IsActable course count w = Unit {0}
 
+-- what gets a bound has none and is new
+pub record IsUnbounded {F : Type 0} (b : Board F) (box : BoxName) (most : ℕ) : Type 0 where
+  pub some : 1 ≤ most
+  pub none : (b.mails box).most ≡ None
+  pub new : (b.mails box).puts ≡ 0
+
+abbrev pub MayBound : {F : Type 0} → Board F → Wants F → Type 0
+MayBound b (wants.Bound box most) = IsUnbounded b box most
+MayBound b w = Unit {0}
+
 -- ---- what keeps the board
 
 -- the task's part of the journal
@@ -110,6 +127,8 @@ CourseAt b t c = (books : Books) × (books_from first_books b.journal ≡ Some b
 -- what is wanted is the next action of the thread of that course
 abbrev pub ActMeets : {F : Type 0} → (F → ℕ) → (F → Course) → (Setting → F → Lone → Type 0) → Setting → ℕ → Course → Wants F → Type 0
 ActMeets task course holds set t c (wants.Put box tree shape) = Wishes set t c (ToPut box shape) × IsMessage set.program tree shape
+ActMeets task course holds set t c (wants.PutWait box tree shape) = Wishes set t c (ToPutWait box shape) × IsMessage set.program tree shape
+ActMeets task course holds set t c (wants.Bound box most) = Wishes set t c (ToBound box most) × BoundsAreNew set
 ActMeets task course holds set t c (wants.Take box) = Wishes set t c (ToTake box)
 ActMeets task course holds set t c (wants.Probe box) = Wishes set t c (ToProbe box)
 ActMeets task course holds set t c (wants.Start f shape) = Wishes set t c (ToStart shape) × NewCourse course f shape × StandsFor task course holds set f
@@ -119,6 +138,8 @@ ActMeets task course holds set t c (wants.End why) = Wishes set t c (ToEnd why)
 
 abbrev pub wish_in : {F : Type 0} → Wants F → Option Wish
 wish_in (wants.Put box tree shape) = Some (ToPut box shape)
+wish_in (wants.PutWait box tree shape) = Some (ToPutWait box shape)
+wish_in (wants.Bound box most) = Some (ToBound box most)
 wish_in (wants.Take box) = Some (ToTake box)
 wish_in (wants.Probe box) = Some (ToProbe box)
 wish_in (wants.Start f shape) = Some (ToStart shape)
@@ -144,10 +165,10 @@ abbrev pub LentStands : {F : Type 0} → (F → ℕ) → (F → Course) → (Set
 LentStands task course holds set b' (lent.Fiber f) = StandsFor task course holds set f × CourseAt b' (task f) (course f)
 LentStands task course holds set b' l = Unit {0}
 
--- a fiber that is given back stands for its course, and where it waits its thread stands at a `get` of that mailbox
-abbrev pub RestsAs : {F : Type 0} → (F → ℕ) → (F → Course) → (Setting → F → Lone → Type 0) → Setting → F → Option BoxName → Type 0
+-- a fiber that is given back stands for its course, and where it waits its thread stands where it may have to wait for that
+abbrev pub RestsAs : {F : Type 0} → (F → ℕ) → (F → Course) → (Setting → F → Lone → Type 0) → Setting → F → Option Waits → Type 0
 RestsAs task course holds set f None = StandsFor task course holds set f
-RestsAs task course holds set f (Some box) = StandsAt task course holds set f box
+RestsAs task course holds set f (Some waits) = StandsAt task course holds set f waits
 
 pub record IsNewBoard {F : Type 0} (b : Board F) (f : F) (seats : ℕ) : Type 0 where
   pub journal : b.journal ≡ []

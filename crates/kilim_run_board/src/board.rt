@@ -10,13 +10,14 @@ ghost use Rattle.kilim_run_model.specs.declared.deed.Beginning.TheVariants.{Boot
 ghost use Rattle.kilim_run_board.specs.fibers.Fibers.{StandsFor};
 ghost use Rattle.kilim_run_board.specs.declared.fibers.Wants.TheVariants as wanted;
 ghost use Rattle.kilim_run_board.specs.waiting.Mailboxes.{HasRoom};
-ghost use Rattle.kilim_run_board.specs.Board.{BoardStands, lent_of, closing, AreBoxes, IsQuiet, Stops, PutsMessage, Notes, EndsTask, StartsTask};
-ghost use Rattle.kilim_run_board.specs.Seen.{seen, IsRoomy, LendAnswers, GiveAnswers, TakeAnswers, IsNumbered, ActAnswers, ProbeAnswers, RoomFor, IsActable, SameBoard, CourseAt, ActMeets, IsAnswered, wish_in, LentStands, RestsAs, IsNewBoard, MovedWhole};
+ghost use Rattle.kilim_run_board.specs.Board.{BoardStands, lent_of, box_of, closing, AreBoxes, IsQuiet, Stops, PutsMessage, BoundsMailbox, Notes, EndsTask, StartsTask};
+ghost use Rattle.kilim_run_board.specs.Seen.{seen, IsRoomy, IsUnbounded, MayBound, LendAnswers, GiveAnswers, TakeAnswers, IsNumbered, ActAnswers, ProbeAnswers, RoomFor, IsActable, SameBoard, CourseAt, ActMeets, IsAnswered, wish_in, LentStands, RestsAs, IsNewBoard, MovedWhole};
 
 use crate::fibers::{Answer, Fibers, Wants};
 use crate::waiting::{Mailboxes, Parked, Waiter, line_up, note, wake};
 use kilim_program::BoxName;
 use kilim_run_journal::{Act, Entry};
+use kilim_run_model::Waits;
 use kilim_run_state::{EndCause, Shape};
 use kilim_run_trees::Tree;
 use kilim_units::{NoMemory, Seq};
@@ -108,9 +109,9 @@ impl<F: Fibers> Board<F> {
         }
     }
 
-    /// Takes back a fiber that rests from its seat, whose cell is empty then. The fiber is parked where it waits at a mailbox that
-    /// is empty; else it is ready, behind the others. Takes no memory.
-    pub fn give_back(&mut self, seat: usize, fiber: F, waits: Option<BoxName>)
+    /// Takes back a fiber that rests from its seat, whose cell is empty then. The fiber is parked where it waits for a message and the
+    /// mailbox is empty, or for room and the mailbox is full; else it is ready, behind the others. Takes no memory.
+    pub fn give_back(&mut self, seat: usize, fiber: F, waits: Option<Waits>)
         requires lent { slice_get self.old.cells.items seat ≡ Some (Some (F.task_of fiber)) }
         requires roomy { IsRoomy self.old }
         ensures effect { GiveAnswers (seen self.old) seat (seen self.new) fiber waits }
@@ -119,9 +120,9 @@ impl<F: Fibers> Board<F> {
     {
         self.cells[seat] = None;
         match waits {
-            Some(mailbox) => {
-                if self.mailboxes.is_empty(mailbox) {
-                    self.parked.park(mailbox, fiber);
+            Some(waits) => {
+                if self.mailboxes.has_to_wait(waits) {
+                    self.parked.park(waits, fiber);
                 } else {
                     line_up(&mut self.ready, fiber);
                 }
@@ -154,7 +155,7 @@ impl<F: Fibers> Board<F> {
     {
         let number = self.mailboxes.put_message(mailbox, tree);
         note(&mut self.journal, task, Act::Put(mailbox, number, shape));
-        wake(&mut self.ready, &mut self.parked, mailbox);
+        wake(&mut self.ready, &mut self.parked, Waits::Take(mailbox));
         number
     }
 
@@ -169,6 +170,7 @@ impl<F: Fibers> Board<F> {
         match self.mailboxes.take_message(mailbox) {
             Some((number, tree)) => {
                 note(&mut self.journal, task, Act::Take(mailbox, number));
+                wake(&mut self.ready, &mut self.parked, Waits::Put(mailbox));
                 Some((number, tree))
             }
             None => None,
@@ -183,6 +185,18 @@ impl<F: Fibers> Board<F> {
         ensures roomy { IsRoomy self.new }
     {
         note(&mut self.journal, task, act);
+    }
+
+    // A bound.
+    fn bound(&mut self, task: u32, mailbox: BoxName, most: u32)
+        requires roomy { IsRoomy self.old }
+        requires room { (length self.old.journal.items < vec_capacity self.old.journal) × HasRoom self.old.mailboxes mailbox }
+        requires unbounded { IsUnbounded (seen self.old) mailbox most }
+        ensures effect { BoundsMailbox (seen self.old) task (seen self.new) mailbox most }
+        ensures roomy { IsRoomy self.new }
+    {
+        self.mailboxes.bound(mailbox, most);
+        note(&mut self.journal, task, Act::Bound(mailbox, most));
     }
 
     // An end.
@@ -226,6 +240,14 @@ impl<F: Fibers> Board<F> {
         };
         match wants {
             Wants::Put(mailbox, _, _) => self.mailboxes.reserve_message(*mailbox),
+            Wants::PutWait(mailbox, _, _) => {
+                let Ok(()) = self.mailboxes.reserve_message(*mailbox) else {
+                    return Err(NoMemory);
+                };
+                self.parked
+                    .make_places(Waits::Put(*mailbox), self.cells.len())
+            }
+            Wants::Bound(mailbox, _) => self.mailboxes.reserve_message(*mailbox),
             Wants::Start(_, _) => {
                 let more = self.tasks as usize + 1;
                 let Ok(()) = self.ready.reserve(more) else {
@@ -233,19 +255,22 @@ impl<F: Fibers> Board<F> {
                 };
                 self.parked.reserve(more)
             }
-            Wants::Take(mailbox) => self.parked.make_places(*mailbox, self.cells.len()),
+            Wants::Take(mailbox) => self
+                .parked
+                .make_places(Waits::Take(*mailbox), self.cells.len()),
             _ => Ok(()),
         }
     }
 
     /// The act of the task that is lent to the seat, for which there is room: one entry of the journal, but none for a take on an
-    /// empty mailbox, which is answered `Nothing`. A start where 10,000 tasks are there is the task's end, `OutOfTasks`, and so is
+    /// empty mailbox, which is answered `Nothing`, and none for a put that waits on a full one, which is answered `Full`. A start where 10,000 tasks are there is the task's end, `OutOfTasks`, and so is
     /// a put into a full mailbox, `OutOfRoom`; an end empties the cell. Takes no memory.
     pub fn act(&mut self, seat: usize, wants: Wants<F>) -> Acted
         requires lent { (t : ℕ) × (slice_get self.old.cells.items seat ≡ Some (Some t)) }
         requires roomy { IsRoomy self.old }
         requires room { RoomFor self.old wants }
         requires acts { IsActable F.course_of F.count_of wants }
+        requires bounds { MayBound (seen self.old) wants }
         ensures effect { (t : ℕ) → slice_get self.old.cells.items seat ≡ Some (Some t) → ActAnswers (IsNumbered F.task_of F.course_of F.count_of F.refused F.holds) (seen self.old) seat t (seen self.new) wants result }
         ensures stands { (set : Setting) (t : ℕ) (c : Course) → slice_get self.old.cells.items seat ≡ Some (Some t) → CourseAt (seen self.old) t c → ActMeets F.task_of F.course_of F.holds set t c wants → BoardStands F.task_of F.course_of F.holds set (seen self.old) →
             BoardStands F.task_of F.course_of F.holds set (seen self.new) × IsAnswered set (seen self.new) t c (wish_in wants) result }
@@ -263,11 +288,19 @@ impl<F: Fibers> Board<F> {
         requires roomy { IsRoomy self.old }
         requires room { RoomFor self.old wants }
         requires acts { IsActable F.course_of F.count_of wants }
+        requires bounds { MayBound (seen self.old) wants }
         ensures effect { ActAnswers (IsNumbered F.task_of F.course_of F.count_of F.refused F.holds) (seen self.old) seat task (seen self.new) wants result }
         ensures roomy { IsRoomy self.new }
     {
         match wants {
             Wants::Put(mailbox, tree, shape) => self.put_or_end(seat, task, mailbox, tree, shape),
+            Wants::PutWait(mailbox, tree, shape) => {
+                self.put_or_wait(seat, task, mailbox, tree, shape)
+            }
+            Wants::Bound(mailbox, most) => {
+                self.bound(task, mailbox, most);
+                Acted::Answer(Answer::Done)
+            }
             Wants::Take(mailbox) => match self.take(task, mailbox) {
                 Some((number, tree)) => Acted::Answer(Answer::Message(tree, number)),
                 None => Acted::Answer(Answer::Nothing),
@@ -304,6 +337,28 @@ impl<F: Fibers> Board<F> {
         if self.mailboxes.is_full(mailbox) {
             self.end(seat, task, EndCause::Full);
             Acted::OutOfRoom
+        } else {
+            Acted::Answer(Answer::Sent(self.put(task, mailbox, tree, shape)))
+        }
+    }
+
+    // A put that waits, where the mailbox is full, with its message.
+    fn put_or_wait(
+        &mut self,
+        seat: usize,
+        task: u32,
+        mailbox: BoxName,
+        tree: Tree,
+        shape: Shape,
+    ) -> Acted
+        requires roomy { IsRoomy self.old }
+        requires room { (length self.old.journal.items < vec_capacity self.old.journal) × HasRoom self.old.mailboxes mailbox }
+        ensures effect { ActAnswers (IsNumbered F.task_of F.course_of F.count_of F.refused F.holds) (seen self.old) seat task (seen self.new) (wanted.PutWait mailbox tree shape) result }
+        ensures roomy { IsRoomy self.new }
+    {
+        let _ = seat;
+        if self.mailboxes.is_full(mailbox) {
+            Acted::Answer(Answer::Full(tree, shape))
         } else {
             Acted::Answer(Answer::Sent(self.put(task, mailbox, tree, shape)))
         }
@@ -398,6 +453,16 @@ fn with_waits<F: Fibers>(
     Ok(entries.into_vec())
 }
 
+// The mailbox at which there is to wait.
+fn box_of(waits: Waits) -> BoxName
+    ensures { result ≡ box_of waits }
+{
+    match waits {
+        Waits::Take(mailbox) => mailbox,
+        Waits::Put(mailbox) => mailbox,
+    }
+}
+
 // The mailbox of a task, where it is one of those that are asked for.
 fn set_box(boxes: &mut Vec<Option<BoxName>>, task: u32, mailbox: BoxName)
     ensures { boxes.new.items ≡ slice_set boxes.old.items task (Some mailbox) }
@@ -424,7 +489,7 @@ fn parked_boxes<F: Fibers>(
     while left > 0 {
         left -= 1;
         let waiter = &waiters[left];
-        set_box(&mut boxes, waiter.fiber.task(), waiter.mailbox);
+        set_box(&mut boxes, waiter.fiber.task(), box_of(waiter.waits));
     }
     Ok(boxes)
 }

@@ -40,6 +40,8 @@ fn wants_in_box<F: Drop>(alloc: Global, wants: Wants<F>) -> Result<Wants<Boxed<F
 {
     match wants {
         Wants::Put(mailbox, tree, shape) => Ok(Wants::Put(mailbox, tree, shape)),
+        Wants::PutWait(mailbox, tree, shape) => Ok(Wants::PutWait(mailbox, tree, shape)),
+        Wants::Bound(mailbox, most) => Ok(Wants::Bound(mailbox, most)),
         Wants::Take(mailbox) => Ok(Wants::Take(mailbox)),
         Wants::Probe(mailbox) => Ok(Wants::Probe(mailbox)),
         Wants::Start(fiber, shape) => match in_box(alloc, fiber) {

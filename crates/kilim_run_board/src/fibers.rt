@@ -1,7 +1,7 @@
 //! What the board and the runner know of a fiber: a task that runs on a heap of its own.
 
 ghost use Rattle.std.specs.Prelude.{◌≡◌, ◌<◌, ◌≤◌, ℕ, Bool, true, Option, Some, None, OnOk, IfOk, List, []};
-ghost use Rattle.kilim_program.specs.declared.names.BoxName.{BoxName};
+ghost use Rattle.kilim_run_model.specs.declared.waits.Waits.{Waits};
 ghost use Rattle.kilim_run_model.specs.State.{Setting};
 ghost use Rattle.kilim_run_model.specs.Lone.{Lone};
 ghost use Rattle.kilim_run_model.specs.Course.{Course};
@@ -11,6 +11,7 @@ ghost use Rattle.kilim_run_board.specs.fibers.Wishes.{Wish};
 ghost use Rattle.kilim_run_board.specs.fibers.Fibers.{IsOfRun, StandsFor, Asks, Resumed, Fits, course_after, CanAnswer, CanRun, RestsRightly, CountsRightly, StartsFresh, StartsAtNone, IsNewCourse};
 
 use kilim_program::{BoxName, ClassId};
+use kilim_run_model::Waits;
 use kilim_run_state::{EndCause, Limits, Shape};
 use kilim_run_trees::Tree;
 use kilim_units::NoMemory;
@@ -21,6 +22,10 @@ use std::alloc::Global;
 pub enum Wants<F> {
     /// A message is put into a mailbox: its tree and its shape. The answer is `Sent`.
     Put(BoxName, Tree, Shape),
+    /// The same, but it waits while the mailbox is full. The answer is `Sent`, or `Full`, and then the fiber rests at that mailbox.
+    PutWait(BoxName, Tree, Shape),
+    /// A mailbox that is new gets a bound. The answer is `Done`.
+    Bound(BoxName, u32),
     /// A message is taken out of a mailbox. The answer is `Message`, or `Nothing`, and then the fiber rests at that mailbox.
     Take(BoxName),
     /// A message is taken, or null where there is none. The answer is `Message` or `Nothing`.
@@ -29,8 +34,8 @@ pub enum Wants<F> {
     Start(F, Shape),
     /// A value is printed. The answer is `Done`.
     Print(Shape),
-    /// The fiber rests: at the `get` of an empty mailbox, or since it yielded.
-    Rest(Option<BoxName>),
+    /// The fiber rests: where it waits at a mailbox, or since it yielded.
+    Rest(Option<Waits>),
     /// The task ends.
     End(EndCause),
 }
@@ -38,10 +43,12 @@ pub enum Wants<F> {
 /// What a fiber is answered.
 #[derive(Drop)]
 pub enum Answer {
-    /// What was printed is noted.
+    /// What was printed is noted, or the mailbox has the bound.
     Done,
     /// The message was put under this number.
     Sent(u64),
+    /// The mailbox is full: the message that was to be put comes back, with its shape.
+    Full(Tree, Shape),
     /// A message, and the number under which it was put.
     Message(Tree, u64),
     /// The mailbox is empty.
@@ -68,8 +75,8 @@ pub trait Fibers: Sized + Drop {
     ghost serves: { Setting → Self.Code → Type 0 };
     /// How many instructions it has counted.
     ghost count_of: { Self → ℕ };
-    /// The mailbox of the take that it was just answered nothing to.
-    ghost refused: { Self → Option BoxName };
+    /// What it waits for: its take was just answered nothing, or its put that the mailbox is full.
+    ghost refused: { Self → Option Waits };
     /// It is newly begun, or rests.
     ghost rests: { Self → Bool };
 

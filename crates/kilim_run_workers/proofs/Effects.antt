@@ -1,8 +1,8 @@
 -- What each call of the board does to the cells as numbers.
 use Rattle.std.proofs.Common.{◌≡◌, ℕ, zero, suc, ◌<◌, Bool, true, false, List, [], ◌∷◌, Option, Some, None, refl, ap, subst, ◌∙◌, map, length, ◌==◌}
 use Rattle.std.specs.Prelude.{slice_get, slice_set, replicate}
-use Rattle.kilim_program.specs.declared.names.BoxName.{BoxName}
 use Rattle.kilim_run_model.specs.State.{Setting}
+use Rattle.kilim_run_model.specs.declared.waits.Waits.{Waits}
 use Rattle.kilim_run_board.specs.fibers.Fibers.{StartsAtNone, course_after}
 use Rattle.kilim_run_board.specs.declared.fibers.Wants.{Wants}
 use Rattle.kilim_run_board.specs.declared.fibers.Wants.TheVariants as wants
@@ -12,7 +12,9 @@ use Rattle.kilim_run_board.specs.declared.board.Acted.TheVariants as acted
 use Rattle.kilim_run_board.specs.declared.board.Lent.{Lent}
 use Rattle.kilim_run_board.specs.declared.board.Lent.TheVariants as lent
 use Rattle.kilim_run_board.specs.Board.{Board, BoardStands, Stops}
-use Rattle.kilim_run_board.specs.Seen.{ActAnswers, ActMeets, IsActable, IsAnswered, wish_in, LendAnswers, LentStands, GiveAnswers, gives_at, IsNewBoard, SameBoard, CourseAt}
+use Rattle.kilim_run_board.specs.Seen.{ActAnswers, ActMeets, IsActable, IsAnswered, MayBound, wish_in, LendAnswers, LentStands, GiveAnswers, gives_at, IsNewBoard, SameBoard, CourseAt}
+use Rattle.kilim_run_board.specs.waiting.Mailboxes.{has_to_wait}
+use Rattle.kilim_run_board.proofs.Calls.{may_bound}
 use Rattle.kilim_lemmas.proofs.Lists.{set_there}
 use Rattle.kilim_run_turn.specs.Views.{cell_at}
 use Rattle.kilim_run_turn.specs.Turns.{KeepsOthers}
@@ -45,18 +47,18 @@ module _ {F : Type 0} (b b' : Board F) (seat : ℕ) where
   lend_others task lent.Quiet did = all_keep seat _ _ (ap cells_of did.1)
   lend_others task lent.Stopped did = all_keep seat _ _ (ap cells_of did.1)
 
-  give_how : (f : F) (waits : Option BoxName) → GiveAnswers b seat b' f waits → (b'.journal ≡ b.journal) × (b'.cells ≡ slice_set b.cells seat None)
+  give_how : (f : F) (waits : Option Waits) → GiveAnswers b seat b' f waits → (b'.journal ≡ b.journal) × (b'.cells ≡ slice_set b.cells seat None)
   give_how f None did = (did.run.journal, did.cells)
-  give_how f (Some box) did = give_at (length (b.mails box).queue == 0) did
+  give_how f (Some v) did = give_at (has_to_wait b.mails v) did
     where
-      give_at : (y : Bool) → gives_at y b seat b' f box → (b'.journal ≡ b.journal) × (b'.cells ≡ slice_set b.cells seat None)
+      give_at : (y : Bool) → gives_at y b seat b' f v → (b'.journal ≡ b.journal) × (b'.cells ≡ slice_set b.cells seat None)
       give_at true did = (did.run.journal, did.cells)
       give_at false did = (did.run.journal, did.cells)
 
-  pub give_others : (f : F) (waits : Option BoxName) → GiveAnswers b seat b' f waits → KeepsOthers seat (cells_of b) (cells_of b')
+  pub give_others : (f : F) (waits : Option Waits) → GiveAnswers b seat b' f waits → KeepsOthers seat (cells_of b) (cells_of b')
   give_others f waits did = let h = give_how f waits did in cell_changed b b' seat None h.0 h.1
 
-  pub give_empty : (f : F) (waits : Option BoxName) (t : ℕ) → slice_get b.cells seat ≡ Some (Some t) → GiveAnswers b seat b' f waits → cell_at (cells_of b') seat ≡ []
+  pub give_empty : (f : F) (waits : Option Waits) (t : ℕ) → slice_get b.cells seat ≡ Some (Some t) → GiveAnswers b seat b' f waits → cell_at (cells_of b') seat ≡ []
   give_empty f waits t lent did = emptied (Some t) lent (give_how f waits did).1
 
   pub stop_others : Stops b seat b' → KeepsOthers seat (cells_of b) (cells_of b')
@@ -74,6 +76,8 @@ module _ {F : Type 0} (b b' : Board F) (seat : ℕ) where
     -- what meets a course is an act
     pub is_actable : (count : F → ℕ) (t : ℕ) (c : Course) (w : Wants F) → ((set : Setting) → Of set → ActMeets task course holds set t c w) → StartsAtNone count w → IsActable course count w
     is_actable count t c (wants.Put box tree shape) m none = tt
+    is_actable count t c (wants.PutWait box tree shape) m none = tt
+    is_actable count t c (wants.Bound box most) m none = tt
     is_actable count t c (wants.Take box) m none = tt
     is_actable count t c (wants.Probe box) m none = tt
     is_actable count t c (wants.Start f shape) m none = ((m some.0 some.1).1, none)
@@ -83,9 +87,12 @@ module _ {F : Type 0} (b b' : Board F) (seat : ℕ) where
 
     pub acted_as : (numbered : F → F → ℕ → Type 0) (t : ℕ) (c : Course) (w : Wants F) (a : Acted) → slice_get b.cells seat ≡ Some (Some t) → ActAnswers numbered b seat t b' w a → ((set : Setting) → Of set → IsAnswered set b' t c (wish_in w) a) → ActedAs Of t c (cell_at (cells_of b') seat) (wish_in w) a
     acted_as numbered t c (wants.Put box tree shape) (acted.Answer (answer.Sent n)) there did ans = λ set is. let x = ans set is in (x.0, x.1, lent_cell b' seat t (course_after c x.0) (ap (λ cs. slice_get cs seat) did.2.cells ∙ there) x.2)
-    acted_as numbered t c (wants.Take box) (acted.Answer (answer.Message tree n)) there did ans = λ set is. let x = ans set is in (x.0, x.1, lent_cell b' seat t (course_after c x.0) (ap (λ cs. slice_get cs seat) did.1.spots.cells ∙ there) x.2)
+    acted_as numbered t c (wants.PutWait box tree shape) (acted.Answer (answer.Sent n)) there did ans = λ set is. let x = ans set is in (x.0, x.1, lent_cell b' seat t (course_after c x.0) (ap (λ cs. slice_get cs seat) did.2.cells ∙ there) x.2)
+    acted_as numbered t c (wants.PutWait box tree shape) (acted.Answer (answer.Full back same)) there did ans = λ set is. let x = ans set is in (x.0, x.1, lent_cell b' seat t (course_after c x.0) (ap (λ cs. slice_get cs seat) did.3.spots.cells ∙ there) x.2)
+    acted_as numbered t c (wants.Bound box most) (acted.Answer answer.Done) there did ans = λ set is. let x = ans set is in (x.0, x.1, lent_cell b' seat t (course_after c x.0) (ap (λ cs. slice_get cs seat) did.spots.cells ∙ there) x.2)
+    acted_as numbered t c (wants.Take box) (acted.Answer (answer.Message tree n)) there did ans = λ set is. let x = ans set is in (x.0, x.1, lent_cell b' seat t (course_after c x.0) (ap (λ cs. slice_get cs seat) did.1.cells ∙ there) x.2)
     acted_as numbered t c (wants.Take box) (acted.Answer answer.Nothing) there did ans = λ set is. let x = ans set is in (x.0, x.1, lent_cell b' seat t (course_after c x.0) (ap (λ cs. slice_get cs seat) did.1.spots.cells ∙ there) x.2)
-    acted_as numbered t c (wants.Probe box) (acted.Answer (answer.Message tree n)) there did ans = λ set is. let x = ans set is in (x.0, x.1, lent_cell b' seat t (course_after c x.0) (ap (λ cs. slice_get cs seat) did.1.spots.cells ∙ there) x.2)
+    acted_as numbered t c (wants.Probe box) (acted.Answer (answer.Message tree n)) there did ans = λ set is. let x = ans set is in (x.0, x.1, lent_cell b' seat t (course_after c x.0) (ap (λ cs. slice_get cs seat) did.1.cells ∙ there) x.2)
     acted_as numbered t c (wants.Probe box) (acted.Answer answer.Nothing) there did ans = λ set is. let x = ans set is in (x.0, x.1, lent_cell b' seat t (course_after c x.0) (ap (λ cs. slice_get cs seat) did.1.spots.cells ∙ there) x.2)
     acted_as numbered t c (wants.Start f shape) (acted.Answer (answer.Started k)) there did ans = λ set is. let x = ans set is in (x.0, x.1, lent_cell b' seat t (course_after c x.0) (ap (λ cs. slice_get cs seat) did.4.cells ∙ there) x.2)
     acted_as numbered t c (wants.Start f shape) acted.OutOfTasks there did ans = emptied (Some t) there did.1.cells
@@ -100,6 +107,9 @@ module _ {F : Type 0} (b b1 : Board F) (seat t : ℕ) (c : Course) (w : Wants F)
     (st1 : (set : Setting) → Of set → BoardStands task course holds set b1) where
   pub lent_now : (slice_get b1.cells seat ≡ Some (Some t)) × CourseAt b1 t c
   lent_now = is_lent b1 seat t c (ap (λ l. cell_at l seat) (cells_same b b1 seat same.run.journal same.spots.cells) ∙ lent)
+
+  pub bounds_now : (count : F → ℕ) (refused : F → Option Waits) → MayBound b1 w
+  bounds_now count refused = may_bound task course count refused holds some.0 b1 t c w (st1 some.0 some.1) lent_now.1 (meets some.0 some.1)
 
   module _ (b2 : Board F) (a : Acted) (does : (set : Setting) (t : ℕ) (c : Course) → slice_get b1.cells seat ≡ Some (Some t) → CourseAt b1 t c → ActMeets task course holds set t c w → BoardStands task course holds set b1 → BoardStands task course holds set b2 × IsAnswered set b2 t c (wish_in w) a) where
     pub stands_now : (set : Setting) → Of set → BoardStands task course holds set b2 × IsAnswered set b2 t c (wish_in w) a

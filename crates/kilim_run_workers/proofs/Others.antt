@@ -220,9 +220,12 @@ module _ {F : Type 0} (b b' : Board F) (seat : ℕ) where
 
     pub act_others : (numbered : F → F → ℕ → Type 0) (t : ℕ) (w : Wants F) (a : Acted) → slice_get b.cells seat ≡ Some (Some t) → ActAnswers numbered b seat t b' w a → KeepsOthers seat (cells_of b) (cells_of b')
     act_others numbered t (wants.Put box tree shape) (acted.Answer (answer.Sent n)) lent did = entry_made t _ lent did.2.journal (inl did.2.cells)
-    act_others numbered t (wants.Take box) (acted.Answer (answer.Message tree n)) lent did = entry_made t _ lent did.1.journal (inl did.1.spots.cells)
+    act_others numbered t (wants.PutWait box tree shape) (acted.Answer (answer.Sent n)) lent did = entry_made t _ lent did.2.journal (inl did.2.cells)
+    act_others numbered t (wants.PutWait box tree shape) (acted.Answer (answer.Full back same)) lent did = nothing_made did.3
+    act_others numbered t (wants.Bound box most) (acted.Answer answer.Done) lent did = entry_made t _ lent did.journal (inl did.spots.cells)
+    act_others numbered t (wants.Take box) (acted.Answer (answer.Message tree n)) lent did = entry_made t _ lent did.1.journal (inl did.1.cells)
     act_others numbered t (wants.Take box) (acted.Answer answer.Nothing) lent did = nothing_made did.1
-    act_others numbered t (wants.Probe box) (acted.Answer (answer.Message tree n)) lent did = entry_made t _ lent did.1.journal (inl did.1.spots.cells)
+    act_others numbered t (wants.Probe box) (acted.Answer (answer.Message tree n)) lent did = entry_made t _ lent did.1.journal (inl did.1.cells)
     act_others numbered t (wants.Probe box) (acted.Answer answer.Nothing) lent did = entry_made t _ lent did.1.journal (inl did.1.spots.cells)
     act_others numbered t (wants.Start f shape) (acted.Answer (answer.Started k)) lent did = entry_made t _ lent did.4.journal (inl did.4.cells)
     act_others numbered t (wants.Start f shape) acted.OutOfTasks lent did = entry_made t _ lent did.1.journal (inr did.1.cells)

@@ -1,6 +1,6 @@
 -- From one step of a worker to the next.
 use Rattle.std.proofs.Common.{◌≡◌, ℕ, List, [], Option, Some, None, sym, subst, ◌∙◌}
-use Rattle.kilim_program.specs.declared.names.BoxName.{BoxName}
+use Rattle.kilim_run_model.specs.declared.waits.Waits.{Waits}
 use Rattle.kilim_run_state.specs.declared.run.Limits.{Limits}
 use Rattle.kilim_run_model.specs.State.{Setting}
 use Rattle.kilim_run_board.specs.fibers.Fibers.{Asks, Resumed, Fits, course_after, StandsFor}
@@ -17,12 +17,12 @@ use Rattle.kilim_run_workers.specs.Runs.{fiber_numbers, AllStand, ActedAs, RunsO
 use Rattle.kilim_run_model.specs.Lone.{Lone}
 use Rattle.kilim_run_model.specs.Course.{Course}
 use Rattle.kilim_run_model.specs.declared.deed.Deed.{Deed}
-use Rattle.kilim_run_board.specs.fibers.Wishes.{Wish, ToPut, ToTake, ToProbe, ToStart, ToPrint, ToEnd}
+use Rattle.kilim_run_board.specs.fibers.Wishes.{Wish, ToPut, ToPutWait, ToBound, ToTake, ToProbe, ToStart, ToPrint, ToEnd}
 
 -- where it rests
-pub rested : {F : Type 0} (task : F → ℕ) (course : F → Course) (holds asked : Setting → F → Lone → Type 0) (set : Setting) (f : F) (waits : Option BoxName) → Resumed task course holds asked set f (wants.Rest waits) → RestsAs task course holds set f waits
+pub rested : {F : Type 0} (task : F → ℕ) (course : F → Course) (holds asked : Setting → F → Lone → Type 0) (set : Setting) (f : F) (waits : Option Waits) → Resumed task course holds asked set f (wants.Rest waits) → RestsAs task course holds set f waits
 rested task course holds asked set f None r = r
-rested task course holds asked set f (Some box) r = r
+rested task course holds asked set f (Some v) r = r
 
 module _ {F C : Type 0} (task : F → ℕ) (course : F → Course) (holds asked : Setting → F → Lone → Type 0) (serves : Setting → C → Type 0) (Of : Setting → Type 0) (code : C) (limits : Limits) where
   -- what the answer is to, and the course that the cell has
@@ -35,6 +35,8 @@ module _ {F C : Type 0} (task : F → ℕ) (course : F → Course) (holds asked 
 
   pub asked_in : (set : Setting) → Of set → (f : F) (w : Wants F) (a : Answer) (cell : List ℕ) → IsGoing w → Resumed task course holds asked set f w → ActedAs Of (task f) (course f) cell (wish_in w) (acted.Answer a) → IsAsked set f a cell
   asked_in set is f (wants.Put box tree shape) a cell goes r did = let x = did set is in record { wish = ToPut box shape; deed = x.0; asks = r.0; fits = x.1; now = x.2 }
+  asked_in set is f (wants.PutWait box tree shape) a cell goes r did = let x = did set is in record { wish = ToPutWait box shape; deed = x.0; asks = r.0; fits = x.1; now = x.2 }
+  asked_in set is f (wants.Bound box most) a cell goes r did = let x = did set is in record { wish = ToBound box most; deed = x.0; asks = r.0; fits = x.1; now = x.2 }
   asked_in set is f (wants.Take box) a cell goes r did = let x = did set is in record { wish = ToTake box; deed = x.0; asks = r; fits = x.1; now = x.2 }
   asked_in set is f (wants.Probe box) a cell goes r did = let x = did set is in record { wish = ToProbe box; deed = x.0; asks = r; fits = x.1; now = x.2 }
   asked_in set is f (wants.Start new shape) a cell goes r did = let x = did set is in record { wish = ToStart shape; deed = x.0; asks = r.0; fits = x.1; now = x.2 }

@@ -1,9 +1,9 @@
 -- A run, and what its fibers and seats are.
 use Rattle.std.specs.Prelude.{◌≡◌, ℕ, List, [], Option, Some, None}
-use Rattle.kilim_program.specs.declared.names.BoxName.{BoxName}
 use Rattle.kilim_program.specs.declared.names.ClassId.{ClassId}
 use Rattle.kilim_run_state.specs.declared.run.Limits.{Limits}
 use Rattle.kilim_run_model.specs.State.{Setting}
+use Rattle.kilim_run_model.specs.declared.waits.Waits.{Waits}
 use Rattle.kilim_run_board.specs.fibers.Fibers.{Fits, course_after, StandsFor}
 use Rattle.kilim_run_board.specs.declared.fibers.Wants.{Wants}
 use Rattle.kilim_run_board.specs.declared.board.Lent.{Lent}
@@ -29,7 +29,7 @@ module _ {F : Type 0} (task : F → ℕ) (course : F → Course) where
     abbrev pub AllStand : F → Type 0
     AllStand f = (set : Setting) → Of set → StandsFor task course holds set f
 
-    abbrev pub AllRest : F → Option BoxName → Type 0
+    abbrev pub AllRest : F → Option Waits → Type 0
     AllRest f waits = (set : Setting) → Of set → RestsAs task course holds set f waits
 
     abbrev pub AllMeet : F → Wants F → Type 0

@@ -3,13 +3,14 @@
 ghost use Rattle.std.specs.Prelude.{◌≡◌, ◌<◌, ◌≤◌, ◌∷◌, [], ℕ, Bool, true, false, Option, Some, None, OnOk, IfOk, List};
 ghost use Rattle.kilim_run_model.specs.State.{Setting};
 ghost use Rattle.kilim_run_board.specs.Seen.{MovedWhole, seen};
-ghost use Rattle.kilim_run_workers.specs.one_worker.Pool.{IsOf, IsLending, IsResting, NextIs, IsCalm, EmptyAt, Falls, todo, left};
+ghost use Rattle.kilim_run_workers.specs.one_worker.Pool.{IsOf, IsLending, IsResting, NextIs, IsCalm, WaitsAt, Falls, todo, left};
 
 use kilim_outside::Gate;
-use kilim_program::{BoxName, ClassId};
+use kilim_program::ClassId;
 use kilim_run_board::fibers::{Fibers, Wants};
 use kilim_run_board::{Acted, Board, Lent};
 use kilim_run_journal::Entry;
+use kilim_run_model::Waits;
 use kilim_run_state::Limits;
 use kilim_units::NoMemory;
 use std::alloc::Global;
@@ -21,8 +22,8 @@ pub(crate) enum Next {
     On,
     /// Its task has ended.
     Over,
-    /// It rests: at the `get` of an empty mailbox, or since it yielded.
-    Rests(Option<BoxName>),
+    /// It rests: where it waits at a mailbox, or since it yielded.
+    Rests(Option<Waits>),
 }
 
 // Runs a lent fiber up to the next thing that it wants, and does that.
@@ -36,7 +37,7 @@ fn advance<F: Fibers>(
     requires some { (set : Setting) × IsOf F.serves code.now main limits.now set }
     requires lending { IsLending F.task_of F.course_of F.holds (IsOf F.serves code.now main limits.now) board.old fiber.old }
     requires calm { IsCalm F.refused (seen board.old) }
-    requires waits { EmptyAt F.refused board.old fiber.old }
+    requires waits { WaitsAt F.refused board.old fiber.old }
     ensures next { IfOk result (λ next. NextIs F.task_of F.course_of F.holds (IsOf F.serves code.now main limits.now) board.new fiber.new next) }
     ensures falls { IfOk result (λ next. Falls F.count_of F.refused limits.now.steps (todo F.count_of F.refused limits.now.steps board.old fiber.old) board.new fiber.new next) }
 {
@@ -82,7 +83,7 @@ fn run_fiber<F: Fibers>(
     requires some { (set : Setting) × IsOf F.serves code.now main limits.now set }
     requires lending { IsLending F.task_of F.course_of F.holds (IsOf F.serves code.now main limits.now) board.old fiber }
     requires calm { IsCalm F.refused (seen board.old) }
-    requires waits { EmptyAt F.refused board.old fiber }
+    requires waits { WaitsAt F.refused board.old fiber }
     ensures rest { OnOk result (IsResting F.task_of F.course_of F.holds (IsOf F.serves code.now main limits.now) board.new) }
     ensures falls { OnOk result (IsCalm F.refused (seen board.new) × (left F.count_of limits.now.steps (seen board.new) ≤ todo F.count_of F.refused limits.now.steps board.old fiber)) }
 {

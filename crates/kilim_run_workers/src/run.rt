@@ -12,10 +12,10 @@ ghost use Rattle.kilim_run_turn.specs.Turns.{KeepsOthers};
 ghost use Rattle.kilim_run_workers.specs.Codes.{board_cells, lent_numbers};
 ghost use Rattle.kilim_run_workers.specs.Runs.{fiber_numbers, AllStand, AllRest, AllMeet, IsTaken, ActedAs};
 
-use kilim_program::BoxName;
 use kilim_run_board::fibers::{Fibers, Wants};
 use kilim_run_board::{Acted, Board, Lent};
 use kilim_run_journal::Entry;
+use kilim_run_model::Waits;
 use kilim_run_turn::Cells;
 use kilim_units::NoMemory;
 use std::alloc::Global;
@@ -97,7 +97,7 @@ impl<F: Fibers, K: Run> RunBoard<F, K> {
     }
 
     /// Takes back a fiber that rests from the seat that it is lent to.
-    pub fn give_back(&mut self, seat: usize, fiber: F, waits: Option<BoxName>)
+    pub fn give_back(&mut self, seat: usize, fiber: F, waits: Option<Waits>)
         requires lent { cell_at (board_cells self.old) seat ≡ fiber_numbers F.task_of F.course_of fiber }
         requires rests { AllRest F.task_of F.course_of F.holds K.of fiber waits }
         ensures others { KeepsOthers seat (board_cells self.old) (board_cells self.new) }

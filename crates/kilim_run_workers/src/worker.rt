@@ -13,9 +13,9 @@ ghost use Rattle.kilim_run_model.specs.Course.{Course};
 use crate::one_worker::Next;
 use crate::run::{Run, RunBoard};
 use kilim_outside::Gate;
-use kilim_program::BoxName;
 use kilim_run_board::fibers::{Fibers, Wants};
 use kilim_run_board::{Acted, Lent};
+use kilim_run_model::Waits;
 use kilim_run_state::Limits;
 use kilim_run_turn::{Pass, Turn};
 use kilim_units::NoMemory;
@@ -46,7 +46,7 @@ fn hand_back<F: Fibers, K: Run, R: Wait>(
     turn: &Turn<RunBoard<F, K>>,
     pass: &mut Pass,
     fiber: F,
-    waits: Option<BoxName>,
+    waits: Option<Waits>,
 )
     requires pass { IsPassOf board_cells turn.now pass.old }
     requires lent { shows pass.old ≡ fiber_numbers F.task_of F.course_of fiber }

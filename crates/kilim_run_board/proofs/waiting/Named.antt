@@ -8,7 +8,7 @@ use Rattle.std.specs.Ordering.{nat_cmp, ordering_then, is_eq}
 use Rattle.std.specs.BTreeMap.{BTreeMap, get, UpdatesBy, is_at}
 use Rattle.std.specs.Map.{lookup}
 use Rattle.kilim_program.specs.declared.names.BoxName.{BoxName}
-use Rattle.kilim_run_model.specs.State.{same_box, with_mailbox, with_message, with_queue}
+use Rattle.kilim_run_model.specs.State.{same_box, bounded, with_mailbox, with_message, with_queue}
 use Rattle.kilim_run_board.specs.mailbox.Mailbox.{Content}
 use Rattle.kilim_run_board.specs.waiting.Mailboxes.{Tree, Mail, SameMails, key_cmp, mail_in}
 use Rattle.kilim_run_board.proofs.waiting.Names.{both_ways, same_name}
@@ -92,6 +92,16 @@ module _ (ms ms' : BoxName → Mail) (name : BoxName) where
         let h = all name in omega arith
     | inr other ↦
         let e : (ms' box).puts ≡ (ms box).puts = ap (λ (x : Mail). x.puts) (same box) ∙ ap (λ b. (if b then with_queue (ms name) queue else ms box).puts) other in
+        let h = all box in omega arith
+  ]
+
+  pub counted_bound : (most n m : ℕ) → ((box : BoxName) → (ms box).puts ≤ n) → SameMails (with_mailbox ms name (bounded (ms name) most)) ms' → n ≤ m → (box : BoxName) → (ms' box).puts ≤ m
+  counted_bound most n m all same more box = elim (both_ways (same_box box name)) [
+    | inl here ↦
+        let e : (ms' box).puts ≡ (ms name).puts = ap (λ (x : Mail). x.puts) (same box) ∙ ap (λ b. (if b then bounded (ms name) most else ms box).puts) here in
+        let h = all name in omega arith
+    | inr other ↦
+        let e : (ms' box).puts ≡ (ms box).puts = ap (λ (x : Mail). x.puts) (same box) ∙ ap (λ b. (if b then bounded (ms name) most else ms box).puts) other in
         let h = all box in omega arith
   ]
 

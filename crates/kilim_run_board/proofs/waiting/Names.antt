@@ -1,8 +1,11 @@
--- Names of mailboxes.
+-- Names of mailboxes, and what is waited for there.
 use Rattle.std.proofs.Common.{◌≡◌, ℕ, Bool, true, false, refl, ap, ◌∙◌, ◌⊎◌, inl, inr, arith}
 use Rattle.std.proofs.lemmas.Bool.Decides.{nat_tests}
 use Rattle.kilim_program.specs.declared.names.BoxName.{BoxName}
 use Rattle.kilim_run_model.specs.State.{same_box}
+use Rattle.kilim_run_model.specs.declared.waits.Waits.{Waits}
+use Rattle.kilim_run_model.specs.declared.waits.Waits.TheVariants as wait
+use Rattle.kilim_run_board.specs.Places.{same_wait}
 
 pub both_ways : (b : Bool) → (b ≡ true) ⊎ (b ≡ false)
 both_ways true = inl refl
@@ -20,3 +23,13 @@ same_name a b e =
 
 pub box_itself : (a : BoxName) → same_box a a ≡ true
 box_itself a = grind (arith, nat_tests)
+
+pub one_wait : (v w : Waits) → same_wait v w ≡ true → v ≡ w
+one_wait (wait.Take a) (wait.Take b) e = ap wait.Take (same_name a b e)
+one_wait (wait.Put a) (wait.Put b) e = ap wait.Put (same_name a b e)
+one_wait (wait.Take a) (wait.Put b) e = absurd (cc)
+one_wait (wait.Put a) (wait.Take b) e = absurd (cc)
+
+pub wait_itself : (w : Waits) → same_wait w w ≡ true
+wait_itself (wait.Take box) = box_itself box
+wait_itself (wait.Put box) = box_itself box

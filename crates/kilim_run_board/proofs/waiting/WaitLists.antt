@@ -1,10 +1,10 @@
--- Who waits first at a mailbox.
+-- Who waits first.
 use Rattle.std.proofs.Common.{◌≡◌, ℕ, zero, suc, ◌+◌, ◌<◌, ◌≤◌, Bool, true, false, List, [], ◌∷◌, Option, Some, None, refl, sym, ap, ◌∙◌, inl, inr, arith, get_or}
 use Rattle.std.specs.Prelude.{length, slice_get, if◌then◌else◌, nat_lt}
 use Rattle.std.specs.List.{remove}
 use Rattle.std.proofs.lemmas.Bool.Decides.{nat_tests}
-use Rattle.kilim_program.specs.declared.names.BoxName.{BoxName}
-use Rattle.kilim_run_model.specs.State.{same_box}
+use Rattle.kilim_run_model.specs.declared.waits.Waits.{Waits}
+use Rattle.kilim_run_board.specs.Places.{same_wait}
 use Rattle.kilim_run_board.specs.declared.waiting.parked.Waiter.{Waiter}
 use Rattle.kilim_run_board.specs.waiting.Parked.{woken}
 use Rattle.kilim_run_board.specs.waiting.Parked.{waiter_index}
@@ -34,52 +34,52 @@ shifted_none None e = refl
 shifted_none (Some j) e = absurd (cc)
 
 module _ {F : Type 0} where
-  abbrev pub NoneWaits : List (Waiter F) → BoxName → ℕ → Type 0
-  NoneWaits ws box i = (k : ℕ) → k < i → (w : Waiter F) → slice_get ws k ≡ Some w → same_box box w.mailbox ≡ false
+  abbrev pub NoneWaits : List (Waiter F) → Waits → ℕ → Type 0
+  NoneWaits ws v i = (k : ℕ) → k < i → (w : Waiter F) → slice_get ws k ≡ Some w → same_wait v w.waits ≡ false
 
-  pub waits_first : (ws : List (Waiter F)) (box : BoxName) (i : ℕ) (w : Waiter F) → NoneWaits ws box i → slice_get ws i ≡ Some w → same_box box w.mailbox ≡ true → waiter_index ws box ≡ Some i
-  waits_first [] box i w before at same = absurd (cc)
-  waits_first (q ∷ qs) box zero w before at same =
-      let e : q ≡ w = cc in ap (after_first (waiter_index qs box)) (ap (λ (x : Waiter F). same_box box x.mailbox) e ∙ same)
-  waits_first (q ∷ qs) box (suc i) w before at same =
-      ap (after_first (waiter_index qs box)) (before 0 (omega arith) q refl) ∙ (shifted_is (waiter_index qs box) ∙ ap shifted (waits_first qs box i w (λ k h x e. before (suc k) (omega arith) x e) at same))
+  pub waits_first : (ws : List (Waiter F)) (v : Waits) (i : ℕ) (w : Waiter F) → NoneWaits ws v i → slice_get ws i ≡ Some w → same_wait v w.waits ≡ true → waiter_index ws v ≡ Some i
+  waits_first [] v i w before at same = absurd (cc)
+  waits_first (q ∷ qs) v zero w before at same =
+      let e : q ≡ w = cc in ap (after_first (waiter_index qs v)) (ap (λ (x : Waiter F). same_wait v x.waits) e ∙ same)
+  waits_first (q ∷ qs) v (suc i) w before at same =
+      ap (after_first (waiter_index qs v)) (before 0 (omega arith) q refl) ∙ (shifted_is (waiter_index qs v) ∙ ap shifted (waits_first qs v i w (λ k h x e. before (suc k) (omega arith) x e) at same))
 
-  pub waits_none : (ws : List (Waiter F)) (box : BoxName) → NoneWaits ws box (length ws) → waiter_index ws box ≡ None
-  waits_none [] box before = refl
-  waits_none (q ∷ qs) box before = ap (after_first (waiter_index qs box)) (before 0 (omega arith) q refl) ∙ (shifted_is (waiter_index qs box) ∙ ap shifted (waits_none qs box (λ k h x e. before (suc k) (omega arith) x e)))
+  pub waits_none : (ws : List (Waiter F)) (v : Waits) → NoneWaits ws v (length ws) → waiter_index ws v ≡ None
+  waits_none [] v before = refl
+  waits_none (q ∷ qs) v before = ap (after_first (waiter_index qs v)) (before 0 (omega arith) q refl) ∙ (shifted_is (waiter_index qs v) ∙ ap shifted (waits_none qs v (λ k h x e. before (suc k) (omega arith) x e)))
 
-  pub none_more : (ws : List (Waiter F)) (box : BoxName) (i : ℕ) (w : Waiter F) → NoneWaits ws box i → slice_get ws i ≡ Some w → same_box box w.mailbox ≡ false → NoneWaits ws box (i + 1)
-  none_more ws box i w before at other k h x e = elim (both_ways (nat_lt k i)) [
+  pub none_more : (ws : List (Waiter F)) (v : Waits) (i : ℕ) (w : Waiter F) → NoneWaits ws v i → slice_get ws i ≡ Some w → same_wait v w.waits ≡ false → NoneWaits ws v (i + 1)
+  none_more ws v i w before at other k h x e = elim (both_ways (nat_lt k i)) [
     | inl below ↦ before k (grind (arith, nat_tests)) x e
     | inr above ↦
         let a : i ≤ k = grind (arith, nat_tests) in
         let same : k ≡ i = omega arith in
         let f : Some w ≡ Some x = sym at ∙ (ap (slice_get ws) (sym same) ∙ e) in
-        let g : w ≡ x = cc in ap (λ (y : Waiter F). same_box box y.mailbox) (sym g) ∙ other
+        let g : w ≡ x = cc in ap (λ (y : Waiter F). same_wait v y.waits) (sym g) ∙ other
   ]
 
   abbrev picked : Waiter F → List (Waiter F) → Option (Waiter F × List (Waiter F)) → Bool → Option (Waiter F × List (Waiter F))
   picked w ws o b = if b then Some (w, ws) else elim o [ None ↦ None | Some found ↦ Some (found.0, w ∷ found.1) ]
 
-  pub woken_at : (ws : List (Waiter F)) (box : BoxName) (i : ℕ) (d : Waiter F) → waiter_index ws box ≡ Some i → woken box ws ≡ Some (get_or ws i d, remove ws i)
-  woken_at [] box i d is = absurd (cc)
-  woken_at (q ∷ qs) box zero d is = elim (both_ways (same_box box q.mailbox)) [
-    | inl same ↦ ap (picked q qs (woken box qs)) same
-    | inr other ↦ absurd (shifted_zero (waiter_index qs box) (sym (shifted_is (waiter_index qs box)) ∙ (sym (ap (after_first (waiter_index qs box)) other) ∙ is)))
+  pub woken_at : (ws : List (Waiter F)) (v : Waits) (i : ℕ) (d : Waiter F) → waiter_index ws v ≡ Some i → woken v ws ≡ Some (get_or ws i d, remove ws i)
+  woken_at [] v i d is = absurd (cc)
+  woken_at (q ∷ qs) v zero d is = elim (both_ways (same_wait v q.waits)) [
+    | inl same ↦ ap (picked q qs (woken v qs)) same
+    | inr other ↦ absurd (shifted_zero (waiter_index qs v) (sym (shifted_is (waiter_index qs v)) ∙ (sym (ap (after_first (waiter_index qs v)) other) ∙ is)))
   ]
-  woken_at (q ∷ qs) box (suc i) d is = elim (both_ways (same_box box q.mailbox)) [
-    | inl same ↦ absurd (let e : Some 0 ≡ Some (suc i) = sym (ap (after_first (waiter_index qs box)) same) ∙ is in cc)
+  woken_at (q ∷ qs) v (suc i) d is = elim (both_ways (same_wait v q.waits)) [
+    | inl same ↦ absurd (let e : Some 0 ≡ Some (suc i) = sym (ap (after_first (waiter_index qs v)) same) ∙ is in cc)
     | inr other ↦
-        let e : waiter_index qs box ≡ Some i = shifted_some (waiter_index qs box) i (sym (shifted_is (waiter_index qs box)) ∙ (sym (ap (after_first (waiter_index qs box)) other) ∙ is)) in
-        ap (picked q qs (woken box qs)) other ∙ ap (λ o. picked q qs o false) (woken_at qs box i d e)
+        let e : waiter_index qs v ≡ Some i = shifted_some (waiter_index qs v) i (sym (shifted_is (waiter_index qs v)) ∙ (sym (ap (after_first (waiter_index qs v)) other) ∙ is)) in
+        ap (picked q qs (woken v qs)) other ∙ ap (λ o. picked q qs o false) (woken_at qs v i d e)
   ]
 
-  pub woken_none : (ws : List (Waiter F)) (box : BoxName) → waiter_index ws box ≡ None → woken box ws ≡ None
-  woken_none [] box is = refl
-  woken_none (q ∷ qs) box is = elim (both_ways (same_box box q.mailbox)) [
-    | inl same ↦ absurd (let e : Some 0 ≡ None = sym (ap (after_first (waiter_index qs box)) same) ∙ is in cc)
-    | inr other ↦ ap (picked q qs (woken box qs)) other ∙ ap (λ o. picked q qs o false) (woken_none qs box (shifted_none (waiter_index qs box) (sym (shifted_is (waiter_index qs box)) ∙ (sym (ap (after_first (waiter_index qs box)) other) ∙ is))))
+  pub woken_none : (ws : List (Waiter F)) (v : Waits) → waiter_index ws v ≡ None → woken v ws ≡ None
+  woken_none [] v is = refl
+  woken_none (q ∷ qs) v is = elim (both_ways (same_wait v q.waits)) [
+    | inl same ↦ absurd (let e : Some 0 ≡ None = sym (ap (after_first (waiter_index qs v)) same) ∙ is in cc)
+    | inr other ↦ ap (picked q qs (woken v qs)) other ∙ ap (λ o. picked q qs o false) (woken_none qs v (shifted_none (waiter_index qs v) (sym (shifted_is (waiter_index qs v)) ∙ (sym (ap (after_first (waiter_index qs v)) other) ∙ is))))
   ]
 
-  pub taken_first : (ws ws' : List (Waiter F)) (box : BoxName) (i : ℕ) (w : Waiter F) → waiter_index ws box ≡ Some i → w ≡ get_or ws i w → ws' ≡ remove ws i → woken box ws ≡ Some (w, ws')
-  taken_first ws ws' box i w is got e = woken_at ws box i w is ∙ (ap (λ (x : Waiter F). Some (x, remove ws i)) (sym got) ∙ ap (λ l. Some (w, l)) (sym e))
+  pub taken_first : (ws ws' : List (Waiter F)) (v : Waits) (i : ℕ) (w : Waiter F) → waiter_index ws v ≡ Some i → w ≡ get_or ws i w → ws' ≡ remove ws i → woken v ws ≡ Some (w, ws')
+  taken_first ws ws' v i w is got e = woken_at ws v i w is ∙ (ap (λ (x : Waiter F). Some (x, remove ws i)) (sym got) ∙ ap (λ l. Some (w, l)) (sym e))

@@ -1,33 +1,29 @@
--- Queues of fibers, one for each mailbox, as one list.
+-- Queues of fibers, one for each thing that may be waited for, as one list.
 use Rattle.std.proofs.Common.{◌≡◌, ℕ, ◌+◌, Bool, true, false, ◌&&◌, cond, ◌==◌, List, [], ◌∷◌, ◌++◌, Option, Some, None, refl, sym, ap, subst, ◌∙◌, inl, inr, arith}
 use Rattle.std.specs.Prelude.{if◌then◌else◌, length, IfSome, IfNone, MatchOption}
 use Rattle.std.specs.List.{AllByRecursion}
 use Rattle.std.proofs.lemmas.Bool.Decides.{nat_tests}
 use Rattle.std.specs.declared.cmp.Ordering.{Ordering}
 use Rattle.std.specs.declared.cmp.Ordering.TheVariants.{Less, Equal, Greater}
-use Rattle.std.specs.Ordering.{is_eq, match_ordering}
+use Rattle.std.specs.Ordering.{is_eq, match_ordering, nat_cmp, ordering_then}
 use Rattle.std.specs.BTreeMap.{is_at, insert_entry}
 use Rattle.std.specs.Map.{lookup, set_value, keys_of}
 use Rattle.std.specs.List.Sorted.{IsStrictlySortedBy}
 use Rattle.kilim_program.specs.declared.names.BoxName.{BoxName}
 use Rattle.kilim_run_model.specs.State.{same_box}
+use Rattle.kilim_run_model.specs.declared.waits.Waits.{Waits}
+use Rattle.kilim_run_model.specs.declared.waits.Waits.TheVariants as wait
+use Rattle.kilim_run_board.specs.Places.{same_wait}
 use Rattle.kilim_run_board.specs.declared.waiting.parked.Waiter.{Waiter}
-use Rattle.kilim_run_board.specs.waiting.Mailboxes.{key_cmp}
-use Rattle.kilim_run_board.specs.waiting.Parked.{at_mailbox, in_order, NobodyAt, StandsBehind}
+use Rattle.kilim_run_board.specs.waiting.Parked.{Key, wait_cmp, key_of, wait_of, at_wait, in_order, NobodyAt, StandsBehind}
 use Rattle.kilim_run_board.specs.waiting.Parked.{woken}
-use Rattle.kilim_run_board.proofs.waiting.Names.{both_ways, same_name}
-use Rattle.kilim_run_board.proofs.waiting.Named.{Key, key_is}
+use Rattle.kilim_run_board.proofs.waiting.Names.{both_ways, one_wait}
+use Rattle.kilim_run_board.proofs.waiting.Named.{key_is}
 
--- ---- names
+-- ---- keys
 
-abbrev name_of : Key → BoxName
-name_of k = record { task = k.0; number = k.1 }
-
-abbrev key : BoxName → Key
-key box = (box.task, box.number)
-
-abbrev test : BoxName → Key → Bool
-test box = is_at (key_cmp (key box))
+abbrev test : Key → Key → Bool
+test k = is_at (wait_cmp k)
 
 same_number : (x y : ℕ) → (x == y) ≡ (y == x)
 same_number x y = elim (both_ways (x == y)) [
@@ -38,9 +34,23 @@ same_number x y = elim (both_ways (x == y)) [
 turned : (a b : BoxName) → same_box a b ≡ same_box b a
 turned a b = ap (λ y. y && (a.number == b.number)) (same_number a.task b.task) ∙ ap (λ y. (b.task == a.task) && y) (same_number a.number b.number)
 
--- the key of a mailbox finds that mailbox
-finds : (box : BoxName) (k : Key) → test box k ≡ same_box box (name_of k)
-finds box k = key_is box (name_of k) ∙ turned (name_of k) box
+both_named : (t n t' n' : ℕ) → is_eq (ordering_then (nat_cmp t t') (nat_cmp n n')) ≡ same_box (record { task = t; number = n }) (record { task = t'; number = n' })
+both_named t n t' n' = key_is (record { task = t; number = n }) (record { task = t'; number = n' }) ∙ turned (record { task = t'; number = n' }) (record { task = t; number = n })
+
+-- a key finds what is waited for by it
+finds : (k l : Key) → test k l ≡ same_wait (wait_of k) (wait_of l)
+finds (false, t, n) (false, t', n') = both_named t n t' n'
+finds (false, t, n) (true, t', n') = refl
+finds (true, t, n) (false, t', n') = refl
+finds (true, t, n) (true, t', n') = both_named t n t' n'
+
+key_back : (k : Key) → key_of (wait_of k) ≡ k
+key_back (false, t, n) = refl
+key_back (true, t, n) = refl
+
+pub wait_back : (v : Waits) → wait_of (key_of v) ≡ v
+wait_back (wait.Take box) = refl
+wait_back (wait.Put box) = refl
 
 -- ---- lists
 
@@ -72,17 +82,17 @@ if_none None P T m f = f m
 if_none (Some x) P T m f = tt
 
 module _ {F : Type 0} where
-  nobody_apart : (box : BoxName) (xs ys : List (Waiter F)) → NobodyAt box xs → NobodyAt box ys → NobodyAt box (xs ++ ys)
-  nobody_apart box [] ys a b = b
-  nobody_apart box (x ∷ xs) ys a b = (a.0, nobody_apart box xs ys a.1 b)
+  nobody_apart : (v : Waits) (xs ys : List (Waiter F)) → NobodyAt v xs → NobodyAt v ys → NobodyAt v (xs ++ ys)
+  nobody_apart v [] ys a b = b
+  nobody_apart v (x ∷ xs) ys a b = (a.0, nobody_apart v xs ys a.1 b)
 
-  at_other : (box other : BoxName) (fs : List F) → same_box box other ≡ false → NobodyAt box (at_mailbox other fs)
-  at_other box other [] e = tt
-  at_other box other (f ∷ fs) e = (e, at_other box other fs e)
+  at_other : (v other : Waits) (fs : List F) → same_wait v other ≡ false → NobodyAt v (at_wait other fs)
+  at_other v other [] e = tt
+  at_other v other (f ∷ fs) e = (e, at_other v other fs e)
 
-  at_pushed : (box : BoxName) (fs : List F) (f : F) (rest : List (Waiter F)) → at_mailbox box (fs ++ f ∷ []) ++ rest ≡ at_mailbox box fs ++ record { mailbox = box; fiber = f } ∷ rest
-  at_pushed box [] f rest = refl
-  at_pushed box (x ∷ xs) f rest = ap (λ l. record { mailbox = box; fiber = x } ∷ l) (at_pushed box xs f rest)
+  at_pushed : (v : Waits) (fs : List F) (f : F) (rest : List (Waiter F)) → at_wait v (fs ++ f ∷ []) ++ rest ≡ at_wait v fs ++ record { waits = v; fiber = f } ∷ rest
+  at_pushed v [] f rest = refl
+  at_pushed v (x ∷ xs) f rest = ap (λ l. record { waits = v; fiber = x } ∷ l) (at_pushed v xs f rest)
 
   -- ---- who is woken
 
@@ -102,26 +112,26 @@ module _ {F : Type 0} where
   past_one w xs ws (Some x) = refl
 
   -- nobody in front waits there
-  woken_past : (box : BoxName) (xs ys : List (Waiter F)) → NobodyAt box xs → woken box (xs ++ ys) ≡ past xs (woken box ys)
-  woken_past box [] ys none = past_none (woken box ys)
-  woken_past box (x ∷ xs) ys none =
-      ap (picked x (xs ++ ys) (woken box (xs ++ ys))) none.0 ∙ (ap (λ o. picked x (xs ++ ys) o false) (woken_past box xs ys none.1) ∙ past_one x xs (xs ++ ys) (woken box ys))
+  woken_past : (v : Waits) (xs ys : List (Waiter F)) → NobodyAt v xs → woken v (xs ++ ys) ≡ past xs (woken v ys)
+  woken_past v [] ys none = past_none (woken v ys)
+  woken_past v (x ∷ xs) ys none =
+      ap (picked x (xs ++ ys) (woken v (xs ++ ys))) none.0 ∙ (ap (λ o. picked x (xs ++ ys) o false) (woken_past v xs ys none.1) ∙ past_one x xs (xs ++ ys) (woken v ys))
 
-  pub woken_apart : (box : BoxName) (xs ys ys' : List (Waiter F)) (w : Waiter F) → NobodyAt box xs → woken box ys ≡ Some (w, ys') → woken box (xs ++ ys) ≡ Some (w, xs ++ ys')
-  woken_apart box xs ys ys' w none e = woken_past box xs ys none ∙ ap (past xs) e
+  pub woken_apart : (v : Waits) (xs ys ys' : List (Waiter F)) (w : Waiter F) → NobodyAt v xs → woken v ys ≡ Some (w, ys') → woken v (xs ++ ys) ≡ Some (w, xs ++ ys')
+  woken_apart v xs ys ys' w none e = woken_past v xs ys none ∙ ap (past xs) e
 
-  pub woken_nobody : (box : BoxName) (xs ys : List (Waiter F)) → NobodyAt box xs → woken box ys ≡ None → woken box (xs ++ ys) ≡ None
-  woken_nobody box xs ys none e = woken_past box xs ys none ∙ ap (past xs) e
+  pub woken_nobody : (v : Waits) (xs ys : List (Waiter F)) → NobodyAt v xs → woken v ys ≡ None → woken v (xs ++ ys) ≡ None
+  woken_nobody v xs ys none e = woken_past v xs ys none ∙ ap (past xs) e
 
   -- one fewer waits then
-  pub woken_fewer : (box : BoxName) (ws : List (Waiter F)) (found : Waiter F × List (Waiter F)) → woken box ws ≡ Some found → length ws ≡ length found.1 + 1
-  woken_fewer box [] found e = absurd (cc)
-  woken_fewer box (w ∷ ws) found e = elim (both_ways (same_box box w.mailbox)) [
-    | inl is ↦ let s : (w, ws) ≡ found = some_is (w, ws) found (sym (ap (picked w ws (woken box ws)) is) ∙ e) in subst (λ (x : Waiter F × List (Waiter F)). length (w ∷ ws) ≡ length x.1 + 1) s (omega arith)
-    | inr isnt ↦ below (woken box ws) refl (λ x g. woken_fewer box ws x g) (sym (ap (picked w ws (woken box ws)) isnt) ∙ e)
+  pub woken_fewer : (v : Waits) (ws : List (Waiter F)) (found : Waiter F × List (Waiter F)) → woken v ws ≡ Some found → length ws ≡ length found.1 + 1
+  woken_fewer v [] found e = absurd (cc)
+  woken_fewer v (w ∷ ws) found e = elim (both_ways (same_wait v w.waits)) [
+    | inl is ↦ let s : (w, ws) ≡ found = some_is (w, ws) found (sym (ap (picked w ws (woken v ws)) is) ∙ e) in subst (λ (x : Waiter F × List (Waiter F)). length (w ∷ ws) ≡ length x.1 + 1) s (omega arith)
+    | inr isnt ↦ below (woken v ws) refl (λ x g. woken_fewer v ws x g) (sym (ap (picked w ws (woken v ws)) isnt) ∙ e)
   ]
     where
-      below : (o : Option (Waiter F × List (Waiter F))) → woken box ws ≡ o → ((x : Waiter F × List (Waiter F)) → woken box ws ≡ Some x → length ws ≡ length x.1 + 1) → picked w ws o false ≡ Some found → length (w ∷ ws) ≡ length found.1 + 1
+      below : (o : Option (Waiter F × List (Waiter F))) → woken v ws ≡ o → ((x : Waiter F × List (Waiter F)) → woken v ws ≡ Some x → length ws ≡ length x.1 + 1) → picked w ws o false ≡ Some found → length (w ∷ ws) ≡ length found.1 + 1
       below None g again e = absurd (cc)
       below (Some x) g again e = let h = again x g in subst (λ (y : Waiter F × List (Waiter F)). length (w ∷ ws) ≡ length y.1 + 1) (some_is (x.0, w ∷ x.1) found e) (omega arith)
 
@@ -154,120 +164,121 @@ module _ {F Q : Type 0} (items : Q → List F) where
   waiting es = in_order items es
 
   abbrev at_first : Key × Q → List (Waiter F)
-  at_first e = at_mailbox (name_of e.0) (items e.1)
+  at_first e = at_wait (wait_of e.0) (items e.1)
 
-  nobody_above : (box : BoxName) (es : Entries) → AllByRecursion (λ y. key_cmp (key box) y ≡ Less) (keys_of es) → NobodyAt box (waiting es)
-  nobody_above box [] all = tt
-  nobody_above box (e ∷ es) all =
-      nobody_apart box (at_first e) (waiting es) (at_other box (name_of e.0) (items e.1) (sym (finds box e.0) ∙ ap is_eq all.0)) (nobody_above box es all.1)
+  nobody_above : (k : Key) (es : Entries) → AllByRecursion (λ y. wait_cmp k y ≡ Less) (keys_of es) → NobodyAt (wait_of k) (waiting es)
+  nobody_above k [] all = tt
+  nobody_above k (e ∷ es) all =
+      nobody_apart (wait_of k) (at_first e) (waiting es) (at_other (wait_of k) (wait_of e.0) (items e.1) (sym (finds k e.0) ∙ ap is_eq all.0)) (nobody_above k es all.1)
 
-  -- behind the mailbox's own queue stands nobody of it
-  nobody_behind : (box : BoxName) (e : Key × Q) (es : Entries) → box ≡ name_of e.0 → IsStrictlySortedBy key_cmp (keys_of (e ∷ es)) → NobodyAt box (waiting es)
+  -- behind its own queue stands nobody of it
+  nobody_behind : (k : Key) (e : Key × Q) (es : Entries) → wait_of k ≡ wait_of e.0 → IsStrictlySortedBy wait_cmp (keys_of (e ∷ es)) → NobodyAt (wait_of k) (waiting es)
   unfolding IsStrictlySortedBy
-  nobody_behind box e es name sorted = nobody_above box es (subst (λ (b : BoxName). AllByRecursion (λ y. key_cmp (key b) y ≡ Less) (keys_of es)) (sym name) sorted.0)
+  nobody_behind k e es name sorted =
+      let same : e.0 ≡ k = sym (key_back e.0) ∙ (ap key_of (sym name) ∙ key_back k) in nobody_above k es (subst (λ l. AllByRecursion (λ y. wait_cmp l y ≡ Less) (keys_of es)) same sorted.0)
 
-  sorted_below : (e : Key × Q) (es : Entries) → IsStrictlySortedBy key_cmp (keys_of (e ∷ es)) → IsStrictlySortedBy key_cmp (keys_of es)
+  sorted_below : (e : Key × Q) (es : Entries) → IsStrictlySortedBy wait_cmp (keys_of (e ∷ es)) → IsStrictlySortedBy wait_cmp (keys_of es)
   unfolding IsStrictlySortedBy
   sorted_below e es sorted = sorted.1
 
-  name_is : (box : BoxName) (e : Key × Q) → test box e.0 ≡ true → box ≡ name_of e.0
-  name_is box e here = same_name box (name_of e.0) (sym (finds box e.0) ∙ here)
+  name_is : (k : Key) (e : Key × Q) → test k e.0 ≡ true → wait_of k ≡ wait_of e.0
+  name_is k e here = one_wait (wait_of k) (wait_of e.0) (sym (finds k e.0) ∙ here)
 
-  abbrev found : BoxName → Entries → Option Q
-  found box es = lookup (test box) es
+  abbrev found : Key → Entries → Option Q
+  found k es = lookup (test k) es
 
-  abbrev with_queue : BoxName → Entries → Q → Entries
-  with_queue box es q = set_value (test box) es q
+  abbrev with_queue : Key → Entries → Q → Entries
+  with_queue k es q = set_value (test k) es q
 
-  found_here : (box : BoxName) (e : Key × Q) (es : Entries) (q : Q) → test box e.0 ≡ true → found box (e ∷ es) ≡ Some q → e.1 ≡ q
-  found_here box e es q here is = some_is e.1 q (sym (ap (λ b. cond b (Some e.1) (found box es)) here) ∙ is)
+  found_here : (k : Key) (e : Key × Q) (es : Entries) (q : Q) → test k e.0 ≡ true → found k (e ∷ es) ≡ Some q → e.1 ≡ q
+  found_here k e es q here is = some_is e.1 q (sym (ap (λ b. cond b (Some e.1) (found k es)) here) ∙ is)
 
-  found_later : (box : BoxName) (e : Key × Q) (es : Entries) (o : Option Q) → test box e.0 ≡ false → found box (e ∷ es) ≡ o → found box es ≡ o
-  found_later box e es o other is = sym (ap (λ b. cond b (Some e.1) (found box es)) other) ∙ is
+  found_later : (k : Key) (e : Key × Q) (es : Entries) (o : Option Q) → test k e.0 ≡ false → found k (e ∷ es) ≡ o → found k es ≡ o
+  found_later k e es o other is = sym (ap (λ b. cond b (Some e.1) (found k es)) other) ∙ is
 
-  set_here : (box : BoxName) (e : Key × Q) (es : Entries) (q : Q) → test box e.0 ≡ true → waiting (with_queue box (e ∷ es) q) ≡ at_mailbox (name_of e.0) (items q) ++ waiting es
-  set_here box e es q here = ap (λ b. waiting (cond b ((e.0, q) ∷ es) (e ∷ with_queue box es q))) here
+  set_here : (k : Key) (e : Key × Q) (es : Entries) (q : Q) → test k e.0 ≡ true → waiting (with_queue k (e ∷ es) q) ≡ at_wait (wait_of e.0) (items q) ++ waiting es
+  set_here k e es q here = ap (λ b. waiting (cond b ((e.0, q) ∷ es) (e ∷ with_queue k es q))) here
 
-  set_later : (box : BoxName) (e : Key × Q) (es : Entries) (q : Q) → test box e.0 ≡ false → waiting (with_queue box (e ∷ es) q) ≡ at_first e ++ waiting (with_queue box es q)
-  set_later box e es q other = ap (λ b. waiting (cond b ((e.0, q) ∷ es) (e ∷ with_queue box es q))) other
+  set_later : (k : Key) (e : Key × Q) (es : Entries) (q : Q) → test k e.0 ≡ false → waiting (with_queue k (e ∷ es) q) ≡ at_first e ++ waiting (with_queue k es q)
+  set_later k e es q other = ap (λ b. waiting (cond b ((e.0, q) ∷ es) (e ∷ with_queue k es q))) other
 
   -- the same fibers in it
-  pub kept : (box : BoxName) (es : Entries) (q q' : Q) → found box es ≡ Some q → items q' ≡ items q → waiting (with_queue box es q') ≡ waiting es
-  kept box [] q q' is same = refl
-  kept box (e ∷ es) q q' is same = elim (both_ways (test box e.0)) [
-    | inl here ↦ set_here box e es q' here ∙ ap (λ fs. at_mailbox (name_of e.0) fs ++ waiting es) (same ∙ ap items (sym (found_here box e es q here is)))
-    | inr other ↦ set_later box e es q' other ∙ ap (λ l. at_first e ++ l) (kept box es q q' (found_later box e es (Some q) other is) same)
+  pub kept : (k : Key) (es : Entries) (q q' : Q) → found k es ≡ Some q → items q' ≡ items q → waiting (with_queue k es q') ≡ waiting es
+  kept k [] q q' is same = refl
+  kept k (e ∷ es) q q' is same = elim (both_ways (test k e.0)) [
+    | inl here ↦ set_here k e es q' here ∙ ap (λ fs. at_wait (wait_of e.0) fs ++ waiting es) (same ∙ ap items (sym (found_here k e es q here is)))
+    | inr other ↦ set_later k e es q' other ∙ ap (λ l. at_first e ++ l) (kept k es q q' (found_later k e es (Some q) other is) same)
   ]
 
   -- a new queue, in which nobody is
-  pub opened : (k : Key) (es : Entries) (q : Q) → items q ≡ [] → lookup (is_at (key_cmp k)) es ≡ None → waiting (insert_entry key_cmp es k q) ≡ waiting es
-  opened k [] q none new = ap (λ fs. at_mailbox (name_of k) fs ++ []) none
-  opened k (e ∷ es) q none new = by_order (key_cmp k e.0) refl (λ g. opened k es q none g)
+  pub opened : (k : Key) (es : Entries) (q : Q) → items q ≡ [] → lookup (is_at (wait_cmp k)) es ≡ None → waiting (insert_entry wait_cmp es k q) ≡ waiting es
+  opened k [] q none new = ap (λ fs. at_wait (wait_of k) fs ++ []) none
+  opened k (e ∷ es) q none new = by_order (wait_cmp k e.0) refl (λ g. opened k es q none g)
     where
-      by_order : (o : Ordering) → key_cmp k e.0 ≡ o → (lookup (is_at (key_cmp k)) es ≡ None → waiting (insert_entry key_cmp es k q) ≡ waiting es) → waiting (insert_entry key_cmp (e ∷ es) k q) ≡ waiting (e ∷ es)
-      by_order Less is again = ap (λ o. waiting (match_ordering o ((k, q) ∷ e ∷ es) ((e.0, q) ∷ es) (e ∷ insert_entry key_cmp es k q))) is ∙ ap (λ fs. at_mailbox (name_of k) fs ++ (at_first e ++ waiting es)) none
-      by_order Equal is again = absurd (let f : Some e.1 ≡ None = sym (ap (λ o. cond (is_eq o) (Some e.1) (lookup (is_at (key_cmp k)) es)) is) ∙ new in cc)
+      by_order : (o : Ordering) → wait_cmp k e.0 ≡ o → (lookup (is_at (wait_cmp k)) es ≡ None → waiting (insert_entry wait_cmp es k q) ≡ waiting es) → waiting (insert_entry wait_cmp (e ∷ es) k q) ≡ waiting (e ∷ es)
+      by_order Less is again = ap (λ o. waiting (match_ordering o ((k, q) ∷ e ∷ es) ((e.0, q) ∷ es) (e ∷ insert_entry wait_cmp es k q))) is ∙ ap (λ fs. at_wait (wait_of k) fs ++ (at_first e ++ waiting es)) none
+      by_order Equal is again = absurd (let f : Some e.1 ≡ None = sym (ap (λ o. cond (is_eq o) (Some e.1) (lookup (is_at (wait_cmp k)) es)) is) ∙ new in cc)
       by_order Greater is again =
-          ap (λ o. waiting (match_ordering o ((k, q) ∷ e ∷ es) ((e.0, q) ∷ es) (e ∷ insert_entry key_cmp es k q))) is
-          ∙ ap (λ l. at_first e ++ l) (again (sym (ap (λ o. cond (is_eq o) (Some e.1) (lookup (is_at (key_cmp k)) es)) is) ∙ new))
+          ap (λ o. waiting (match_ordering o ((k, q) ∷ e ∷ es) ((e.0, q) ∷ es) (e ∷ insert_entry wait_cmp es k q))) is
+          ∙ ap (λ l. at_first e ++ l) (again (sym (ap (λ o. cond (is_eq o) (Some e.1) (lookup (is_at (wait_cmp k)) es)) is) ∙ new))
 
   -- one more at the end of its queue
-  pub pushed : (box : BoxName) (es : Entries) (q q' : Q) (f : F) → IsStrictlySortedBy key_cmp (keys_of es) → found box es ≡ Some q → items q' ≡ items q ++ f ∷ [] → StandsBehind (record { mailbox = box; fiber = f }) (waiting es) (waiting (with_queue box es q'))
-  pushed box [] q q' f sorted is more = absurd (cc)
-  pushed box (e ∷ es) q q' f sorted is more = elim (both_ways (test box e.0)) [
+  pub pushed : (k : Key) (es : Entries) (q q' : Q) (f : F) → IsStrictlySortedBy wait_cmp (keys_of es) → found k es ≡ Some q → items q' ≡ items q ++ f ∷ [] → StandsBehind (record { waits = wait_of k; fiber = f }) (waiting es) (waiting (with_queue k es q'))
+  pushed k [] q q' f sorted is more = absurd (cc)
+  pushed k (e ∷ es) q q' f sorted is more = elim (both_ways (test k e.0)) [
     | inl here ↦
-        let name : box ≡ name_of e.0 = name_is box e here in
-        let fibers : items q' ≡ items e.1 ++ f ∷ [] = more ∙ ap (λ x. items x ++ f ∷ []) (sym (found_here box e es q here is)) in
+        let name : wait_of k ≡ wait_of e.0 = name_is k e here in
+        let fibers : items q' ≡ items e.1 ++ f ∷ [] = more ∙ ap (λ x. items x ++ f ∷ []) (sym (found_here k e es q here is)) in
         record {
           before = at_first e;
           after = waiting es;
           was = refl;
-          is = set_here box e es q' here ∙ (ap (λ fs. at_mailbox (name_of e.0) fs ++ waiting es) fibers ∙ (at_pushed (name_of e.0) (items e.1) f (waiting es) ∙ ap (λ (b : BoxName). at_first e ++ record { mailbox = b; fiber = f } ∷ waiting es) (sym name)));
-          last = nobody_behind box e es name sorted;
+          is = set_here k e es q' here ∙ (ap (λ fs. at_wait (wait_of e.0) fs ++ waiting es) fibers ∙ (at_pushed (wait_of e.0) (items e.1) f (waiting es) ∙ ap (λ (b : Waits). at_first e ++ record { waits = b; fiber = f } ∷ waiting es) (sym name)));
+          last = nobody_behind k e es name sorted;
         }
     | inr other ↦
-        let h : StandsBehind (record { mailbox = box; fiber = f }) (waiting es) (waiting (with_queue box es q')) = pushed box es q q' f (sorted_below e es sorted) (found_later box e es (Some q) other is) more in
+        let h : StandsBehind (record { waits = wait_of k; fiber = f }) (waiting es) (waiting (with_queue k es q')) = pushed k es q q' f (sorted_below e es sorted) (found_later k e es (Some q) other is) more in
         record {
           before = at_first e ++ h.before;
           after = h.after;
           was = ap (λ l. at_first e ++ l) h.was ∙ joined (at_first e) h.before h.after;
-          is = set_later box e es q' other ∙ (ap (λ l. at_first e ++ l) h.is ∙ joined (at_first e) h.before (record { mailbox = box; fiber = f } ∷ h.after));
+          is = set_later k e es q' other ∙ (ap (λ l. at_first e ++ l) h.is ∙ joined (at_first e) h.before (record { waits = wait_of k; fiber = f } ∷ h.after));
           last = h.last;
         }
   ]
 
   -- the first of its queue goes
-  pub popped : (box : BoxName) (es : Entries) (q q' : Q) (f : F) (rest : List (Waiter F)) → found box es ≡ Some q → items q ≡ f ∷ items q' →
-      woken box (waiting es ++ rest) ≡ Some (record { mailbox = box; fiber = f }, waiting (with_queue box es q') ++ rest)
-  popped box [] q q' f rest is first = absurd (cc)
-  popped box (e ∷ es) q q' f rest is first = elim (both_ways (test box e.0)) [
+  pub popped : (k : Key) (es : Entries) (q q' : Q) (f : F) (rest : List (Waiter F)) → found k es ≡ Some q → items q ≡ f ∷ items q' →
+      woken (wait_of k) (waiting es ++ rest) ≡ Some (record { waits = wait_of k; fiber = f }, waiting (with_queue k es q') ++ rest)
+  popped k [] q q' f rest is first = absurd (cc)
+  popped k (e ∷ es) q q' f rest is first = elim (both_ways (test k e.0)) [
     | inl here ↦
-        let name : box ≡ name_of e.0 = name_is box e here in
-        let fibers : items e.1 ≡ f ∷ items q' = ap items (found_here box e es q here is) ∙ first in
-        let behind : List (Waiter F) = (at_mailbox (name_of e.0) (items q') ++ waiting es) ++ rest in
-        ap (λ fs. woken box ((at_mailbox (name_of e.0) fs ++ waiting es) ++ rest)) fibers
-        ∙ (ap (picked (record { mailbox = name_of e.0; fiber = f }) behind (woken box behind)) (sym (finds box e.0) ∙ here)
-        ∙ (ap (λ l. Some (record { mailbox = name_of e.0; fiber = f }, l ++ rest)) (sym (set_here box e es q' here))
-        ∙ ap (λ (b : BoxName). Some (record { mailbox = b; fiber = f }, waiting (with_queue box (e ∷ es) q') ++ rest)) (sym name)))
+        let name : wait_of k ≡ wait_of e.0 = name_is k e here in
+        let fibers : items e.1 ≡ f ∷ items q' = ap items (found_here k e es q here is) ∙ first in
+        let behind : List (Waiter F) = (at_wait (wait_of e.0) (items q') ++ waiting es) ++ rest in
+        ap (λ fs. woken (wait_of k) ((at_wait (wait_of e.0) fs ++ waiting es) ++ rest)) fibers
+        ∙ (ap (picked (record { waits = wait_of e.0; fiber = f }) behind (woken (wait_of k) behind)) (sym (finds k e.0) ∙ here)
+        ∙ (ap (λ l. Some (record { waits = wait_of e.0; fiber = f }, l ++ rest)) (sym (set_here k e es q' here))
+        ∙ ap (λ (b : Waits). Some (record { waits = b; fiber = f }, waiting (with_queue k (e ∷ es) q') ++ rest)) (sym name)))
     | inr other ↦
-        let none : NobodyAt box (at_first e) = at_other box (name_of e.0) (items e.1) (sym (finds box e.0) ∙ other) in
-        ap (woken box) (sym (joined (at_first e) (waiting es) rest))
-        ∙ (woken_apart box (at_first e) (waiting es ++ rest) (waiting (with_queue box es q') ++ rest) (record { mailbox = box; fiber = f }) none (popped box es q q' f rest (found_later box e es (Some q) other is) first)
-        ∙ ap (λ l. Some (record { mailbox = box; fiber = f }, l)) (joined (at_first e) (waiting (with_queue box es q')) rest ∙ ap (λ l. l ++ rest) (sym (set_later box e es q' other))))
+        let none : NobodyAt (wait_of k) (at_first e) = at_other (wait_of k) (wait_of e.0) (items e.1) (sym (finds k e.0) ∙ other) in
+        ap (woken (wait_of k)) (sym (joined (at_first e) (waiting es) rest))
+        ∙ (woken_apart (wait_of k) (at_first e) (waiting es ++ rest) (waiting (with_queue k es q') ++ rest) (record { waits = wait_of k; fiber = f }) none (popped k es q q' f rest (found_later k e es (Some q) other is) first)
+        ∙ ap (λ l. Some (record { waits = wait_of k; fiber = f }, l)) (joined (at_first e) (waiting (with_queue k es q')) rest ∙ ap (λ l. l ++ rest) (sym (set_later k e es q' other))))
   ]
 
-  pub nobody_named : (box : BoxName) (es : Entries) → found box es ≡ None → NobodyAt box (waiting es)
-  nobody_named box [] is = tt
-  nobody_named box (e ∷ es) is = elim (both_ways (test box e.0)) [
-    | inl here ↦ absurd (let f : Some e.1 ≡ None = sym (ap (λ b. cond b (Some e.1) (found box es)) here) ∙ is in cc)
-    | inr other ↦ nobody_apart box (at_first e) (waiting es) (at_other box (name_of e.0) (items e.1) (sym (finds box e.0) ∙ other)) (nobody_named box es (found_later box e es None other is))
+  pub nobody_named : (k : Key) (es : Entries) → found k es ≡ None → NobodyAt (wait_of k) (waiting es)
+  nobody_named k [] is = tt
+  nobody_named k (e ∷ es) is = elim (both_ways (test k e.0)) [
+    | inl here ↦ absurd (let f : Some e.1 ≡ None = sym (ap (λ b. cond b (Some e.1) (found k es)) here) ∙ is in cc)
+    | inr other ↦ nobody_apart (wait_of k) (at_first e) (waiting es) (at_other (wait_of k) (wait_of e.0) (items e.1) (sym (finds k e.0) ∙ other)) (nobody_named k es (found_later k e es None other is))
   ]
 
-  pub nobody_queued : (box : BoxName) (es : Entries) (q : Q) → IsStrictlySortedBy key_cmp (keys_of es) → found box es ≡ Some q → items q ≡ [] → NobodyAt box (waiting es)
-  nobody_queued box [] q sorted is none = tt
-  nobody_queued box (e ∷ es) q sorted is none = elim (both_ways (test box e.0)) [
+  pub nobody_queued : (k : Key) (es : Entries) (q : Q) → IsStrictlySortedBy wait_cmp (keys_of es) → found k es ≡ Some q → items q ≡ [] → NobodyAt (wait_of k) (waiting es)
+  nobody_queued k [] q sorted is none = tt
+  nobody_queued k (e ∷ es) q sorted is none = elim (both_ways (test k e.0)) [
     | inl here ↦
-        let fibers : items e.1 ≡ [] = ap items (found_here box e es q here is) ∙ none in
-        nobody_apart box (at_first e) (waiting es) (subst (λ (fs : List F). NobodyAt box (at_mailbox (name_of e.0) fs)) (sym fibers) tt) (nobody_behind box e es (name_is box e here) sorted)
-    | inr other ↦ nobody_apart box (at_first e) (waiting es) (at_other box (name_of e.0) (items e.1) (sym (finds box e.0) ∙ other)) (nobody_queued box es q (sorted_below e es sorted) (found_later box e es (Some q) other is) none)
+        let fibers : items e.1 ≡ [] = ap items (found_here k e es q here is) ∙ none in
+        nobody_apart (wait_of k) (at_first e) (waiting es) (subst (λ (fs : List F). NobodyAt (wait_of k) (at_wait (wait_of e.0) fs)) (sym fibers) tt) (nobody_behind k e es (name_is k e here) sorted)
+    | inr other ↦ nobody_apart (wait_of k) (at_first e) (waiting es) (at_other (wait_of k) (wait_of e.0) (items e.1) (sym (finds k e.0) ∙ other)) (nobody_queued k es q (sorted_below e es sorted) (found_later k e es (Some q) other is) none)
   ]

@@ -1,12 +1,14 @@
 -- The mailboxes of the board as contracts see them: a mailbox for every name.
-use Rattle.std.specs.Prelude.{◌≡◌, ℕ, ◌<◌, List, Option, Some, None, length}
+use Rattle.std.specs.Prelude.{◌≡◌, ℕ, ◌<◌, Bool, ◌==◌, List, Option, Some, None, length}
 use Rattle.std.specs.declared.cmp.Ordering.{Ordering}
 use Rattle.std.specs.Ordering.{nat_cmp, ordering_then}
 use Rattle.std.specs.BTreeMap.{get}
 use Rattle.kilim_program.specs.declared.names.BoxName.{BoxName}
 use Rattle.kilim_run_state.specs.declared.value.Object.{Object}
 use Rattle.kilim_run_state.specs.declared.value.Token.{Token}
-use Rattle.kilim_run_model.specs.State.{Mailbox, empty_mailbox}
+use Rattle.kilim_run_model.specs.State.{Mailbox, empty_mailbox, is_full}
+use Rattle.kilim_run_model.specs.declared.waits.Waits.{Waits}
+use Rattle.kilim_run_model.specs.declared.waits.Waits.TheVariants as wait
 use Rattle.kilim_run_board.specs.mailbox.Mailbox.{Content}
 use Rattle.kilim_run_board.specs.declared.waiting.mailboxes.Mailboxes.{Mailboxes}
 
@@ -37,6 +39,11 @@ mail_of m box = mail_in (named m box)
 
 abbrev pub SameMails : (BoxName → Mail) → (BoxName → Mail) → Type 0
 SameMails mails mails' = (box : BoxName) → mails' box ≡ mails box
+
+-- what is waited for isn't there
+abbrev pub has_to_wait : (BoxName → Mail) → Waits → Bool
+has_to_wait mails (wait.Take box) = length (mails box).queue == 0
+has_to_wait mails (wait.Put box) = is_full (mails box)
 
 -- the mailbox is named, and has room for one more message
 pub record HasRoom (m : Mailboxes) (box : BoxName) : Type 0 where

@@ -1,11 +1,12 @@
 //! The mailboxes of the board.
 
-ghost use Rattle.std.specs.Prelude.{◌≡◌, ◌<◌, ◌+◌, ◌^◌, ◌==◌, false, None, IfSome, IfNone, OnOk, ◌∷◌, [], length};
-ghost use Rattle.kilim_run_model.specs.State.{is_full, with_message, with_queue, with_mailbox};
-ghost use Rattle.kilim_run_board.specs.waiting.Mailboxes.{named, mail_of, SameMails, HasRoom};
+ghost use Rattle.std.specs.Prelude.{◌≡◌, ◌<◌, ◌≤◌, ◌+◌, ◌^◌, ◌==◌, false, None, IfSome, IfNone, OnOk, ◌∷◌, [], length};
+ghost use Rattle.kilim_run_model.specs.State.{bounded, is_full, with_message, with_queue, with_mailbox};
+ghost use Rattle.kilim_run_board.specs.waiting.Mailboxes.{named, mail_of, has_to_wait, SameMails, HasRoom};
 
 use crate::mailbox::Mailbox;
 use kilim_program::BoxName;
+use kilim_run_model::Waits;
 use kilim_run_trees::Tree;
 use kilim_units::NoMemory;
 use std::alloc::Global;
@@ -89,6 +90,30 @@ impl Mailboxes {
         match self.by_name.get_mut(&(name.task, name.number)) {
             Some(mailbox) => mailbox.put(tree),
             None => unreachable!(),
+        }
+    }
+
+    /// Bounds a mailbox that is named and new, and has no bound. Takes no memory.
+    pub fn bound(&mut self, name: BoxName, most: u32)
+        requires room { HasRoom self.old name }
+        requires some { 1 ≤ most }
+        requires unbounded { (mail_of self.old name).most ≡ None }
+        requires new { (mail_of self.old name).puts ≡ 0 }
+        ensures { SameMails (with_mailbox (mail_of self.old) name (bounded (mail_of self.old name) most)) (mail_of self.new) }
+    {
+        match self.by_name.get_mut(&(name.task, name.number)) {
+            Some(mailbox) => mailbox.bound(most),
+            None => unreachable!(),
+        }
+    }
+
+    /// Whether there is to wait for this.
+    pub fn has_to_wait(&self, waits: Waits) -> bool
+        ensures { result ≡ has_to_wait (mail_of self.now) waits }
+    {
+        match waits {
+            Waits::Take(name) => self.is_empty(name),
+            Waits::Put(name) => self.is_full(name),
         }
     }
 

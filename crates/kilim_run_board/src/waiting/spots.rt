@@ -6,8 +6,8 @@ ghost use Rattle.std.specs.VecDeque.{deque_capacity};
 ghost use Rattle.kilim_run_board.specs.waiting.Parked.{woken, ready_after, parked_after};
 
 use crate::waiting::parked::Parked;
-use kilim_program::BoxName;
 use kilim_run_journal::{Act, Entry};
+use kilim_run_model::Waits;
 use std::collections::VecDeque;
 
 // Writes an entry, for which there is room.
@@ -33,16 +33,16 @@ pub fn line_up<F: Drop>(ready: &mut VecDeque<F>, fiber: F)
     }
 }
 
-// The first fiber that waits at a mailbox is ready, at the back.
-pub fn wake<F: Drop>(ready: &mut VecDeque<F>, parked: &mut Parked<F>, mailbox: BoxName)
+// The first fiber that waits for this is ready, at the back.
+pub fn wake<F: Drop>(ready: &mut VecDeque<F>, parked: &mut Parked<F>, waits: Waits)
     requires { length ready.old.items + length parked.old.items ≤ deque_capacity ready.old }
-    ensures ready { ready.new.items ≡ ready_after ready.old.items (woken mailbox parked.old.items) }
-    ensures parked { parked.new.items ≡ parked_after parked.old.items (woken mailbox parked.old.items) }
+    ensures ready { ready.new.items ≡ ready_after ready.old.items (woken waits parked.old.items) }
+    ensures parked { parked.new.items ≡ parked_after parked.old.items (woken waits parked.old.items) }
     ensures ready_room { deque_capacity ready.new ≡ deque_capacity ready.old }
     ensures parked_room { parked.old.room ≤ parked.new.room }
     ensures fits { length ready.new.items + length parked.new.items ≡ length ready.old.items + length parked.old.items }
 {
-    match parked.wake(mailbox) {
+    match parked.wake(waits) {
         Some(waiter) => line_up(ready, waiter.fiber),
         None => {}
     }

@@ -1,30 +1,39 @@
 -- How much is left to do: a number that falls with each step of the runner.
-use Rattle.std.proofs.Common.{◌≡◌, ℕ, suc, ◌+◌, ◌-◌, ◌*◌, ◌<◌, ◌≤◌, Bool, true, false, List, [], ◌∷◌, ◌++◌, Option, Some, None, refl, sym, ap, subst, ◌∙◌, arith}
+use Rattle.std.proofs.Common.{◌≡◌, ℕ, suc, ◌+◌, ◌-◌, ◌*◌, ◌<◌, ◌≤◌, Bool, true, false, List, [], ◌∷◌, ◌++◌, Option, Some, None, length, ◌==◌, refl, sym, ap, subst, ◌∙◌, arith}
 use Rattle.std.specs.List.{sum_by, AllByRecursion}
 use Rattle.std.specs.Prelude.{if◌then◌else◌}
 use Rattle.std.proofs.lemmas.List.Sums.{sum_by-cons, sum_by_push}
 use Rattle.kilim_program.specs.declared.names.BoxName.{BoxName}
 use Rattle.kilim_run_state.specs.declared.value.Token.{Token}
-use Rattle.kilim_run_model.specs.State.{same_box}
+use Rattle.kilim_run_model.specs.State.{is_full}
+use Rattle.kilim_run_model.specs.declared.waits.Waits.{Waits}
+use Rattle.kilim_run_model.specs.declared.waits.Waits.TheVariants as wait
 use Rattle.kilim_run_model.specs.Turn.{task_limit}
 use Rattle.kilim_run_board.specs.declared.waiting.parked.Waiter.{Waiter}
 use Rattle.kilim_run_workers.specs.one_worker.Pool as pool
 use Rattle.kilim_run_board.specs.fibers.Fibers.{StartsFresh}
 use Rattle.kilim_run_board.specs.declared.fibers.Wants.{Wants}
 use Rattle.kilim_run_board.specs.declared.fibers.Wants.TheVariants as wants
+use Rattle.kilim_run_board.specs.declared.fibers.Answer.{Answer}
 use Rattle.kilim_run_board.specs.declared.fibers.Answer.TheVariants as answer
 use Rattle.kilim_run_board.specs.declared.board.Acted.{Acted}
 use Rattle.kilim_run_board.specs.declared.board.Acted.TheVariants as acted
 use Rattle.kilim_run_board.specs.Seen.{ActAnswers}
-use Rattle.kilim_run_board.specs.Board.{Board, GivesBack, Parks, PutsMessage, StartsTask}
+use Rattle.kilim_run_board.specs.Board.{Board, GivesBack, Parks, PutsMessage, TakesMessage, StartsTask}
 use Rattle.kilim_run_board.specs.waiting.Parked.{woken, ready_after, parked_after}
-use Rattle.kilim_run_board.specs.waiting.Mailboxes.{Tree, Mail}
+use Rattle.kilim_run_board.specs.Places.{same_wait}
+use Rattle.kilim_run_board.specs.waiting.Mailboxes.{Tree, Mail, has_to_wait}
 
 -- an act that ends the task, though it wanted something else
 abbrev pub IsOver : Acted → Type 0
 IsOver (acted.Answer a) = ⊥
 IsOver acted.OutOfTasks = Unit {0}
 IsOver acted.OutOfRoom = Unit {0}
+
+-- the answer refuses what is wanted
+abbrev pub IsRefused : {F : Type 0} → Waits → Wants F → Answer → Type 0
+IsRefused (wait.Take box) w a = (w ≡ wants.Take box) × (a ≡ answer.Nothing)
+IsRefused (wait.Put box) w a = (tree : Tree) × (shape : List Token) × (back : Tree) × (same : List Token) × (w ≡ wants.PutWait box tree shape) × (a ≡ answer.Full back same)
 
 module _ {F : Type 0} (task : F → ℕ) (count : F → ℕ) (n : ℕ) where
   abbrev weight : F → ℕ
@@ -39,14 +48,14 @@ module _ {F : Type 0} (task : F → ℕ) (count : F → ℕ) (n : ℕ) where
   abbrev left : Board F → ℕ
   left b = pool.left count n b
 
-  woken_left : (box : BoxName) (ws : List (Waiter F)) (found : Waiter F × List (Waiter F)) → woken box ws ≡ Some found → sum_by parked_weight ws ≡ weight found.0.fiber + sum_by parked_weight found.1
-  woken_left box [] found e = absurd (cc)
-  woken_left box (w ∷ ws) found e = by_name (same_box box w.mailbox) (woken box ws) (λ x g. woken_left box ws x g) refl e
+  woken_left : (v : Waits) (ws : List (Waiter F)) (found : Waiter F × List (Waiter F)) → woken v ws ≡ Some found → sum_by parked_weight ws ≡ weight found.0.fiber + sum_by parked_weight found.1
+  woken_left v [] found e = absurd (cc)
+  woken_left v (w ∷ ws) found e = by_name (same_wait v w.waits) (woken v ws) (λ x g. woken_left v ws x g) refl e
     where
       some_is : (x y : Waiter F × List (Waiter F)) → Some x ≡ Some y → x ≡ y
       some_is x y e = cc
 
-      by_name : (b : Bool) (o : Option (Waiter F × List (Waiter F))) → ((x : Waiter F × List (Waiter F)) → woken box ws ≡ Some x → sum_by parked_weight ws ≡ weight x.0.fiber + sum_by parked_weight x.1) → woken box ws ≡ o →
+      by_name : (b : Bool) (o : Option (Waiter F × List (Waiter F))) → ((x : Waiter F × List (Waiter F)) → woken v ws ≡ Some x → sum_by parked_weight ws ≡ weight x.0.fiber + sum_by parked_weight x.1) → woken v ws ≡ o →
           (if b then Some (w, ws) else elim o [ None ↦ None | Some y ↦ Some (y.0, w ∷ y.1) ]) ≡ Some found → sum_by parked_weight (w ∷ ws) ≡ weight found.0.fiber + sum_by parked_weight found.1
       by_name true o later g e = subst (λ (x : Waiter F × List (Waiter F)). sum_by parked_weight (w ∷ ws) ≡ weight x.0.fiber + sum_by parked_weight x.1) (some_is (w, ws) found e) (sum_by-cons parked_weight w ws)
       by_name false None later g e = absurd (cc)
@@ -62,10 +71,19 @@ module _ {F : Type 0} (task : F → ℕ) (count : F → ℕ) (n : ℕ) where
   -- a put may wake one fiber: two more
   pub put_left : (b b' : Board F) (t : ℕ) (box : BoxName) (tree : Tree) (shape : List Token) → PutsMessage b t b' box tree shape → left b' ≤ left b + 2
   put_left b b' t box tree shape puts =
-      let h = after_put b.ready b.parked (woken box b.parked) (λ x e. woken_left box b.parked x e) in
-      let r : sum_by ready_weight b'.ready ≡ sum_by ready_weight (ready_after b.ready (woken box b.parked)) = ap (sum_by ready_weight) puts.ready in
-      let p : sum_by parked_weight b'.parked ≡ sum_by parked_weight (parked_after b.parked (woken box b.parked)) = ap (sum_by parked_weight) puts.parked in
+      let h = after_put b.ready b.parked (woken (wait.Take box) b.parked) (λ x e. woken_left (wait.Take box) b.parked x e) in
+      let r : sum_by ready_weight b'.ready ≡ sum_by ready_weight (ready_after b.ready (woken (wait.Take box) b.parked)) = ap (sum_by ready_weight) puts.ready in
+      let p : sum_by parked_weight b'.parked ≡ sum_by parked_weight (parked_after b.parked (woken (wait.Take box) b.parked)) = ap (sum_by parked_weight) puts.parked in
       let k : (task_limit - b'.tasks) * (3 * n + 2) ≡ (task_limit - b.tasks) * (3 * n + 2) = ap (λ k. (task_limit - k) * (3 * n + 2)) puts.tasks in
+      omega arith
+
+  -- so may a take
+  pub take_left : (b b' : Board F) (t : ℕ) (box : BoxName) (k : ℕ) (tree : Tree) (rest : List (ℕ × Tree)) → TakesMessage b t b' box k tree rest → left b' ≤ left b + 2
+  take_left b b' t box k tree rest takes =
+      let h = after_put b.ready b.parked (woken (wait.Put box) b.parked) (λ x e. woken_left (wait.Put box) b.parked x e) in
+      let r : sum_by ready_weight b'.ready ≡ sum_by ready_weight (ready_after b.ready (woken (wait.Put box) b.parked)) = ap (sum_by ready_weight) takes.ready in
+      let p : sum_by parked_weight b'.parked ≡ sum_by parked_weight (parked_after b.parked (woken (wait.Put box) b.parked)) = ap (sum_by parked_weight) takes.parked in
+      let k : (task_limit - b'.tasks) * (3 * n + 2) ≡ (task_limit - b.tasks) * (3 * n + 2) = ap (λ k. (task_limit - k) * (3 * n + 2)) takes.tasks in
       omega arith
 
   one_fewer : (a x : ℕ) → a < task_limit → (task_limit - (a + 1)) * x + x ≡ (task_limit - a) * x
@@ -93,9 +111,12 @@ module _ {F : Type 0} (task : F → ℕ) (count : F → ℕ) (n : ℕ) where
   -- an act adds two at most
   pub act_left : (numbered : F → F → ℕ → Type 0) (b b' : Board F) (seat t : ℕ) (w : Wants F) (a : Acted) → ActAnswers numbered b seat t b' w a → left b' ≤ left b + 2
   act_left numbered b b' seat t (wants.Put box tree shape) (acted.Answer (answer.Sent k)) did = put_left b b' t box tree shape did.2
-  act_left numbered b b' seat t (wants.Take box) (acted.Answer (answer.Message tree k)) did = let e = same_left b b' did.1.spots.ready did.1.spots.parked did.1.tasks in omega arith
+  act_left numbered b b' seat t (wants.PutWait box tree shape) (acted.Answer (answer.Sent k)) did = put_left b b' t box tree shape did.2
+  act_left numbered b b' seat t (wants.PutWait box tree shape) (acted.Answer (answer.Full back same)) did = let e = same_left b b' did.3.spots.ready did.3.spots.parked did.3.run.tasks in omega arith
+  act_left numbered b b' seat t (wants.Bound box most) (acted.Answer answer.Done) did = let e = same_left b b' did.spots.ready did.spots.parked did.tasks in omega arith
+  act_left numbered b b' seat t (wants.Take box) (acted.Answer (answer.Message tree k)) did = take_left b b' t box k tree did.0 did.1
   act_left numbered b b' seat t (wants.Take box) (acted.Answer answer.Nothing) did = let e = same_left b b' did.1.spots.ready did.1.spots.parked did.1.run.tasks in omega arith
-  act_left numbered b b' seat t (wants.Probe box) (acted.Answer (answer.Message tree k)) did = let e = same_left b b' did.1.spots.ready did.1.spots.parked did.1.tasks in omega arith
+  act_left numbered b b' seat t (wants.Probe box) (acted.Answer (answer.Message tree k)) did = take_left b b' t box k tree did.0 did.1
   act_left numbered b b' seat t (wants.Probe box) (acted.Answer answer.Nothing) did = let e = same_left b b' did.1.spots.ready did.1.spots.parked did.1.tasks in omega arith
   act_left numbered b b' seat t (wants.Start f shape) (acted.Answer (answer.Started k)) did = let e = start_left b b' t did.0 shape did.3 did.4 in omega arith
   act_left numbered b b' seat t (wants.Start f shape) acted.OutOfTasks did = let e = same_left b b' did.1.ready did.1.parked did.1.tasks in omega arith
@@ -116,9 +137,9 @@ module _ {F : Type 0} (task : F → ℕ) (count : F → ℕ) (n : ℕ) where
   weight_among w (x ∷ xs) ys =
       let h = weight_among w xs ys in let a = sum_by-cons parked_weight x (xs ++ w ∷ ys) in let c = sum_by-cons parked_weight x (xs ++ ys) in omega arith
 
-  pub park_left : (b b' : Board F) (seat : ℕ) (f : F) (box : BoxName) → Parks b seat b' f box → left b' ≡ left b + weight f
-  park_left b b' seat f box parks =
-      let w : Waiter F = record { mailbox = box; fiber = f } in
+  pub park_left : (b b' : Board F) (seat : ℕ) (f : F) (v : Waits) → Parks b seat b' f v → left b' ≡ left b + weight f
+  park_left b b' seat f v parks =
+      let w : Waiter F = record { waits = v; fiber = f } in
       let r : sum_by ready_weight b'.ready ≡ sum_by ready_weight b.ready = ap (sum_by ready_weight) parks.ready in
       let now : sum_by parked_weight b'.parked ≡ sum_by parked_weight (parks.parked.before ++ w ∷ parks.parked.after) = ap (sum_by parked_weight) parks.parked.is in
       let old : sum_by parked_weight b.parked ≡ sum_by parked_weight (parks.parked.before ++ parks.parked.after) = ap (sum_by parked_weight) parks.parked.was in
@@ -131,13 +152,18 @@ module _ {F : Type 0} (task : F → ℕ) (count : F → ℕ) (n : ℕ) where
   over_left numbered b b' seat t (wants.Put box tree shape) acted.OutOfRoom over did = same_left b b' did.1.ready did.1.parked did.1.tasks
   over_left numbered b b' seat t _ _ over did = absurd did
 
-  -- a take that is answered nothing adds none
-  pub nothing_left : (numbered : F → F → ℕ → Type 0) (b b' : Board F) (seat t : ℕ) (box : BoxName) → ActAnswers numbered b seat t b' (wants.Take box) (acted.Answer answer.Nothing) → (left b' ≡ left b) × ((b'.mails box).queue ≡ [])
-  nothing_left numbered b b' seat t box did = (same_left b b' did.1.spots.ready did.1.spots.parked did.1.run.tasks, ap (λ (m : Mail). m.queue) (did.1.run.mails box) ∙ did.0)
+  -- what is refused adds none, and there is to wait for it
+  pub refused_left : (numbered : F → F → ℕ → Type 0) (b b' : Board F) (seat t : ℕ) (v : Waits) (w : Wants F) (a : Answer) → IsRefused v w a → ActAnswers numbered b seat t b' w (acted.Answer a) → (left b' ≡ left b) × (has_to_wait b'.mails v ≡ true)
+  refused_left numbered b b' seat t (wait.Take box) w a is did =
+      let d : ActAnswers numbered b seat t b' (wants.Take box) (acted.Answer answer.Nothing) = subst (λ x. ActAnswers numbered b seat t b' (wants.Take box) (acted.Answer x)) is.1 (subst (λ x. ActAnswers numbered b seat t b' x (acted.Answer a)) is.0 did) in
+      (same_left b b' d.1.spots.ready d.1.spots.parked d.1.run.tasks, ap (λ (m : Mail). length m.queue == 0) (d.1.run.mails box) ∙ ap (λ (q : List (ℕ × Tree)). length q == 0) d.0)
+  refused_left numbered b b' seat t (wait.Put box) w a is did =
+      let d : ActAnswers numbered b seat t b' (wants.PutWait box is.0 is.1) (acted.Answer (answer.Full is.2 is.3)) = subst (λ x. ActAnswers numbered b seat t b' (wants.PutWait box is.0 is.1) (acted.Answer x)) is.5 (subst (λ x. ActAnswers numbered b seat t b' x (acted.Answer a)) is.4 did) in
+      (same_left b b' d.3.spots.ready d.3.spots.parked d.3.run.tasks, ap is_full (d.3.run.mails box) ∙ d.0)
 
 -- ---- no fiber that is ready or parked was just answered nothing
 
-module _ {F : Type 0} (refused : F → Option BoxName) where
+module _ {F : Type 0} (refused : F → Option Waits) where
   abbrev IsCalmFiber : F → Type 0
   IsCalmFiber f = pool.IsCalmFiber refused f
 
@@ -164,21 +190,21 @@ module _ {F : Type 0} (refused : F → Option BoxName) where
     parked = subst (AllByRecursion IsCalmWaiter) (sym gives.parked) calm.parked;
   }
 
-  pub park_calm : (b b' : Board F) (seat : ℕ) (f : F) (box : BoxName) → Parks b seat b' f box → refused f ≡ None → IsCalm b → IsCalm b'
-  park_calm b b' seat f box parks calm-f calm = record {
+  pub park_calm : (b b' : Board F) (seat : ℕ) (f : F) (v : Waits) → Parks b seat b' f v → refused f ≡ None → IsCalm b → IsCalm b'
+  park_calm b b' seat f v parks calm-f calm = record {
     ready = subst (AllByRecursion IsCalmFiber) (sym parks.ready) calm.ready;
     parked = subst (AllByRecursion IsCalmWaiter) (sym parks.parked.is)
-        (all_among IsCalmWaiter parks.parked.before parks.parked.after (record { mailbox = box; fiber = f }) (subst (AllByRecursion IsCalmWaiter) parks.parked.was calm.parked) calm-f);
+        (all_among IsCalmWaiter parks.parked.before parks.parked.after (record { waits = v; fiber = f }) (subst (AllByRecursion IsCalmWaiter) parks.parked.was calm.parked) calm-f);
   }
 
-  woken_calm : (box : BoxName) (ws : List (Waiter F)) (found : Waiter F × List (Waiter F)) → woken box ws ≡ Some found → AllByRecursion IsCalmWaiter ws → IsCalmWaiter found.0 × AllByRecursion IsCalmWaiter found.1
-  woken_calm box [] found e all = absurd (cc)
-  woken_calm box (w ∷ ws) found e all = by_name (same_box box w.mailbox) (woken box ws) (λ x g. woken_calm box ws x g all.1) refl e
+  woken_calm : (v : Waits) (ws : List (Waiter F)) (found : Waiter F × List (Waiter F)) → woken v ws ≡ Some found → AllByRecursion IsCalmWaiter ws → IsCalmWaiter found.0 × AllByRecursion IsCalmWaiter found.1
+  woken_calm v [] found e all = absurd (cc)
+  woken_calm v (w ∷ ws) found e all = by_name (same_wait v w.waits) (woken v ws) (λ x g. woken_calm v ws x g all.1) refl e
     where
       some_is : (x y : Waiter F × List (Waiter F)) → Some x ≡ Some y → x ≡ y
       some_is x y e = cc
 
-      by_name : (b : Bool) (o : Option (Waiter F × List (Waiter F))) → ((x : Waiter F × List (Waiter F)) → woken box ws ≡ Some x → IsCalmWaiter x.0 × AllByRecursion IsCalmWaiter x.1) → woken box ws ≡ o →
+      by_name : (b : Bool) (o : Option (Waiter F × List (Waiter F))) → ((x : Waiter F × List (Waiter F)) → woken v ws ≡ Some x → IsCalmWaiter x.0 × AllByRecursion IsCalmWaiter x.1) → woken v ws ≡ o →
           (if b then Some (w, ws) else elim o [ None ↦ None | Some y ↦ Some (y.0, w ∷ y.1) ]) ≡ Some found → IsCalmWaiter found.0 × AllByRecursion IsCalmWaiter found.1
       by_name true o later g e = subst (λ (x : Waiter F × List (Waiter F)). IsCalmWaiter x.0 × AllByRecursion IsCalmWaiter x.1) (some_is (w, ws) found e) all
       by_name false None later g e = absurd (cc)
@@ -190,14 +216,22 @@ module _ {F : Type 0} (refused : F → Option BoxName) where
 
   put_calm : (b b' : Board F) (t : ℕ) (box : BoxName) (tree : Tree) (shape : List Token) → PutsMessage b t b' box tree shape → IsCalm b → IsCalm b'
   put_calm b b' t box tree shape puts calm =
-      let h = after_calm b (woken box b.parked) (λ x e. woken_calm box b.parked x e calm.parked) calm in
+      let h = after_calm b (woken (wait.Take box) b.parked) (λ x e. woken_calm (wait.Take box) b.parked x e calm.parked) calm in
       record { ready = subst (AllByRecursion IsCalmFiber) (sym puts.ready) h.0; parked = subst (AllByRecursion IsCalmWaiter) (sym puts.parked) h.1 }
+
+  take_calm : (b b' : Board F) (t : ℕ) (box : BoxName) (k : ℕ) (tree : Tree) (rest : List (ℕ × Tree)) → TakesMessage b t b' box k tree rest → IsCalm b → IsCalm b'
+  take_calm b b' t box k tree rest takes calm =
+      let h = after_calm b (woken (wait.Put box) b.parked) (λ x e. woken_calm (wait.Put box) b.parked x e calm.parked) calm in
+      record { ready = subst (AllByRecursion IsCalmFiber) (sym takes.ready) h.0; parked = subst (AllByRecursion IsCalmWaiter) (sym takes.parked) h.1 }
 
   pub act_calm : (rests : F → Bool) (numbered : F → F → ℕ → Type 0) → ((f f' : F) (k : ℕ) → numbered f f' k → refused f' ≡ refused f) → (b b' : Board F) (seat t : ℕ) (w : Wants F) (a : Acted) → ActAnswers numbered b seat t b' w a → StartsFresh rests refused w → IsCalm b → IsCalm b'
   act_calm rests numbered same b b' seat t (wants.Put box tree shape) (acted.Answer (answer.Sent k)) did fresh calm = put_calm b b' t box tree shape did.2 calm
-  act_calm rests numbered same b b' seat t (wants.Take box) (acted.Answer (answer.Message tree k)) did fresh calm = same_calm b b' did.1.spots.ready did.1.spots.parked calm
+  act_calm rests numbered same b b' seat t (wants.PutWait box tree shape) (acted.Answer (answer.Sent k)) did fresh calm = put_calm b b' t box tree shape did.2 calm
+  act_calm rests numbered same b b' seat t (wants.PutWait box tree shape) (acted.Answer (answer.Full back again)) did fresh calm = same_calm b b' did.3.spots.ready did.3.spots.parked calm
+  act_calm rests numbered same b b' seat t (wants.Bound box most) (acted.Answer answer.Done) did fresh calm = same_calm b b' did.spots.ready did.spots.parked calm
+  act_calm rests numbered same b b' seat t (wants.Take box) (acted.Answer (answer.Message tree k)) did fresh calm = take_calm b b' t box k tree did.0 did.1 calm
   act_calm rests numbered same b b' seat t (wants.Take box) (acted.Answer answer.Nothing) did fresh calm = same_calm b b' did.1.spots.ready did.1.spots.parked calm
-  act_calm rests numbered same b b' seat t (wants.Probe box) (acted.Answer (answer.Message tree k)) did fresh calm = same_calm b b' did.1.spots.ready did.1.spots.parked calm
+  act_calm rests numbered same b b' seat t (wants.Probe box) (acted.Answer (answer.Message tree k)) did fresh calm = take_calm b b' t box k tree did.0 did.1 calm
   act_calm rests numbered same b b' seat t (wants.Probe box) (acted.Answer answer.Nothing) did fresh calm = same_calm b b' did.1.spots.ready did.1.spots.parked calm
   act_calm rests numbered same b b' seat t (wants.Start f shape) (acted.Answer (answer.Started k)) did fresh calm = record {
     ready = subst (AllByRecursion IsCalmFiber) (sym did.4.ready) (all_pushed IsCalmFiber b.ready did.0 calm.ready (same f did.0 k did.1 ∙ fresh.1));

@@ -2,7 +2,8 @@
 use Rattle.std.proofs.Common.{◌<◌, ◌≤◌, ◌==◌, ◌⊎◌, inl, inr, arith, ◌≡◌, ℕ, Bool, false, [], ◌∷◌, List, Option, Some, None, true, refl, sym, ap, subst, ◌∙◌, length}
 use Rattle.std.specs.Prelude.{slice_get, slice_set}
 use Rattle.kilim_run_state.specs.declared.cause.EndCause.{EndCause}
-use Rattle.kilim_program.specs.declared.names.BoxName.{BoxName}
+use Rattle.kilim_run_model.specs.declared.waits.Waits.{Waits}
+use Rattle.kilim_run_model.specs.declared.waits.Waits.TheVariants as wait
 use Rattle.kilim_run_model.specs.State.{Setting}
 use Rattle.kilim_run_board.specs.fibers.Fibers.{Asks, Resumed, Fits, course_after, CanAnswer, RestsRightly, CountsRightly, StartsAtNone, StartsFresh, StandsFor}
 use Rattle.kilim_run_board.specs.declared.fibers.Wants.{Wants}
@@ -17,15 +18,16 @@ use Rattle.kilim_run_board.specs.declared.board.Board as kept
 use Rattle.kilim_run_board.specs.declared.board.Lent.{Lent}
 use Rattle.kilim_run_board.specs.declared.board.Lent.TheVariants as lent
 use Rattle.kilim_run_board.specs.Board.{Board, BoardStands, IsQuiet, lent_of, Parks}
-use Rattle.kilim_run_board.specs.waiting.Mailboxes.{Tree}
-use Rattle.kilim_run_workers.specs.one_worker.Pool.{IsOf, IsLending, IsResting, IsCalm, EmptyAt, todo, left, one_if_none}
-use Rattle.kilim_run_workers.proofs.one_worker.Measures.{IsOver, same_left, act_left, back_left, park_left, nothing_left, same_calm, act_calm, back_calm, park_calm}
-use Rattle.kilim_run_board.specs.Seen.{seen, IsRoomy, LendAnswers, GiveAnswers, gives_at, LentStands, CourseAt, SameBoard, ActAnswers, ActMeets, IsActable, IsAnswered, RestsAs, wish_in}
+use Rattle.kilim_run_board.specs.waiting.Mailboxes.{has_to_wait}
+use Rattle.kilim_run_workers.specs.one_worker.Pool.{IsOf, IsLending, IsResting, IsCalm, WaitsAt, todo, left, one_if_none}
+use Rattle.kilim_run_workers.proofs.one_worker.Measures.{IsOver, IsRefused, same_left, act_left, back_left, park_left, refused_left, same_calm, act_calm, back_calm, park_calm}
+use Rattle.kilim_run_board.specs.Seen.{seen, IsRoomy, LendAnswers, GiveAnswers, gives_at, LentStands, CourseAt, SameBoard, ActAnswers, ActMeets, IsActable, IsAnswered, MayBound, RestsAs, wish_in}
+use Rattle.kilim_run_board.proofs.Calls.{may_bound}
 use Rattle.kilim_run_model.specs.Lone.{Lone}
 use Rattle.kilim_run_model.specs.Course.{Course}
 use Rattle.kilim_run_model.specs.declared.deed.Deed.{Deed}
 use Rattle.kilim_run_model.specs.Moving.{books_from, first_books}
-use Rattle.kilim_run_board.specs.fibers.Wishes.{Wish, ToPut, ToTake, ToProbe, ToStart, ToPrint, ToEnd}
+use Rattle.kilim_run_board.specs.fibers.Wishes.{Wish, ToPut, ToPutWait, ToBound, ToTake, ToProbe, ToStart, ToPrint, ToEnd}
 
 -- it is an act but no end
 abbrev pub IsGoing : {F : Type 0} → Wants F → Type 0
@@ -33,8 +35,10 @@ IsGoing (wants.Rest waits) = ⊥
 IsGoing (wants.End why) = ⊥
 IsGoing w = Unit {0}
 
-pub going : {F : Type 0} (w : Wants F) → ((o : Option BoxName) → w ≡ wants.Rest o → ⊥) → ((why : EndCause) → w ≡ wants.End why → ⊥) → IsGoing w
+pub going : {F : Type 0} (w : Wants F) → ((o : Option Waits) → w ≡ wants.Rest o → ⊥) → ((why : EndCause) → w ≡ wants.End why → ⊥) → IsGoing w
 going (wants.Put box tree shape) no-rest no-end = tt
+going (wants.PutWait box tree shape) no-rest no-end = tt
+going (wants.Bound box most) no-rest no-end = tt
 going (wants.Take box) no-rest no-end = tt
 going (wants.Probe box) no-rest no-end = tt
 going (wants.Start f shape) no-rest no-end = tt
@@ -45,6 +49,8 @@ going (wants.End why) no-rest no-end = no-end why refl
 module _ {F : Type 0} (task : F → ℕ) (course : F → Course) (holds asked : Setting → F → Lone → Type 0) (set : Setting) where
   pub actable : (count : F → ℕ) (f : F) (w : Wants F) → IsGoing w → Resumed task course holds asked set f w → StartsAtNone count w → IsActable course count w
   actable count f (wants.Put box tree shape) goes r none = tt
+  actable count f (wants.PutWait box tree shape) goes r none = tt
+  actable count f (wants.Bound box most) goes r none = tt
   actable count f (wants.Take box) goes r none = tt
   actable count f (wants.Probe box) goes r none = tt
   actable count f (wants.Start new shape) goes r none = (r.1, none)
@@ -54,6 +60,8 @@ module _ {F : Type 0} (task : F → ℕ) (course : F → Course) (holds asked : 
 
   pub meets : (f : F) (w : Wants F) → IsGoing w → Resumed task course holds asked set f w → ActMeets task course holds set (task f) (course f) w
   meets f (wants.Put box tree shape) goes r = (r.0.wishes, r.1)
+  meets f (wants.PutWait box tree shape) goes r = (r.0.wishes, r.1)
+  meets f (wants.Bound box most) goes r = (r.0.wishes, r.1)
   meets f (wants.Take box) goes r = r.wishes
   meets f (wants.Probe box) goes r = r.wishes
   meets f (wants.Start new shape) goes r = (r.0.wishes, r.1, r.2)
@@ -71,6 +79,8 @@ module _ {F : Type 0} (task : F → ℕ) (course : F → Course) (holds asked : 
 
   pub asked_by : (b' : Board F) (f : F) (w : Wants F) (a : Answer) → IsGoing w → Resumed task course holds asked set f w → IsAnswered set b' (task f) (course f) (wish_in w) (acted.Answer a) → IsAsked b' f a
   asked_by b' f (wants.Put box tree shape) a goes r x = record { wish = ToPut box shape; deed = x.0; asks = r.0; fits = x.1; now = x.2 }
+  asked_by b' f (wants.PutWait box tree shape) a goes r x = record { wish = ToPutWait box shape; deed = x.0; asks = r.0; fits = x.1; now = x.2 }
+  asked_by b' f (wants.Bound box most) a goes r x = record { wish = ToBound box most; deed = x.0; asks = r.0; fits = x.1; now = x.2 }
   asked_by b' f (wants.Take box) a goes r x = record { wish = ToTake box; deed = x.0; asks = r; fits = x.1; now = x.2 }
   asked_by b' f (wants.Probe box) a goes r x = record { wish = ToProbe box; deed = x.0; asks = r; fits = x.1; now = x.2 }
   asked_by b' f (wants.Start new shape) a goes r x = record { wish = ToStart shape; deed = x.0; asks = r.0; fits = x.1; now = x.2 }
@@ -81,9 +91,12 @@ module _ {F : Type 0} (task : F → ℕ) (course : F → Course) (holds asked : 
 module _ {F : Type 0} (numbered : F → F → ℕ → Type 0) (b b' : Board F) (seat t : ℕ) where
   pub goes_keeps : (w : Wants F) (a : Answer) → IsGoing w → ActAnswers numbered b seat t b' w (acted.Answer a) → (b'.cells ≡ b.cells) × (b'.stopped ≡ b.stopped)
   goes_keeps (wants.Put box tree shape) (answer.Sent n) goes did = (did.2.cells, did.2.stopped)
-  goes_keeps (wants.Take box) (answer.Message tree n) goes did = (did.1.spots.cells, did.1.spots.stopped)
+  goes_keeps (wants.PutWait box tree shape) (answer.Sent n) goes did = (did.2.cells, did.2.stopped)
+  goes_keeps (wants.PutWait box tree shape) (answer.Full back same) goes did = (did.3.spots.cells, did.3.spots.stopped)
+  goes_keeps (wants.Bound box most) answer.Done goes did = (did.spots.cells, did.spots.stopped)
+  goes_keeps (wants.Take box) (answer.Message tree n) goes did = (did.1.cells, did.1.stopped)
   goes_keeps (wants.Take box) answer.Nothing goes did = (did.1.spots.cells, did.1.spots.stopped)
-  goes_keeps (wants.Probe box) (answer.Message tree n) goes did = (did.1.spots.cells, did.1.spots.stopped)
+  goes_keeps (wants.Probe box) (answer.Message tree n) goes did = (did.1.cells, did.1.stopped)
   goes_keeps (wants.Probe box) answer.Nothing goes did = (did.1.spots.cells, did.1.spots.stopped)
   goes_keeps (wants.Start f shape) (answer.Started k) goes did = (did.4.cells, did.4.stopped)
   goes_keeps (wants.Print shape) answer.Done goes did = (did.spots.cells, did.spots.stopped)
@@ -136,6 +149,12 @@ module _ {F C : Type 0} (task : F → ℕ) (course : F → Course) (holds asked 
     pub done_now : (b' : kept.Board F) (a : Acted) → IsGoing w → Does b' a → (set : Setting) → Of set → BoardStands task course holds set (seen b') × IsAnswered set (seen b') (task f) (course f) (wish_in w) a
     done_now b' a goes does set is = let s = now.stands set is in does set (task f) (course f) lent_now s.1 (meets task course holds asked set f w goes s.2) s.0
 
+    -- what is bounded is new
+    pub may_now : (count : F → ℕ) (refused : F → Option Waits) → IsGoing w → ((set : Setting) × Of set) → MayBound (seen b) w
+    may_now count refused goes some =
+        let s = now.stands some.0 some.1 in
+        may_bound task course count refused holds some.0 (seen b) (task f) (course f) w s.0 s.1 (meets task course holds asked some.0 f w goes s.2)
+
     pub can_answer : (b' : kept.Board F) (a : Answer) → IsGoing w → Does b' (acted.Answer a) → ((set : Setting) × Of set) → CanAnswer task course asked serves code f a
     can_answer b' a goes does some =
         let s = now.stands some.0 some.1 in
@@ -183,11 +202,11 @@ module _ {F C : Type 0} (task : F → ℕ) (course : F → Course) (holds asked 
       }
 
   -- a fiber that rests is still lent
-  rest_stands : (set : Setting) (f : F) (waits : Option BoxName) → Resumed task course holds asked set f (wants.Rest waits) → StandsFor task course holds set f × RestsAs task course holds set f waits
+  rest_stands : (set : Setting) (f : F) (waits : Option Waits) → Resumed task course holds asked set f (wants.Rest waits) → StandsFor task course holds set f × RestsAs task course holds set f waits
   rest_stands set f None r = (r, r)
-  rest_stands set f (Some box) r = (r.stands, r)
+  rest_stands set f (Some v) r = (r.stands, r)
 
-  pub rests_now : (b : kept.Board F) (f f' : F) (w : Wants F) (waits : Option BoxName) → w ≡ wants.Rest waits → IsLending task course holds Of b f → task f' ≡ task f → course f' ≡ course f →
+  pub rests_now : (b : kept.Board F) (f f' : F) (w : Wants F) (waits : Option Waits) → w ≡ wants.Rest waits → IsLending task course holds Of b f → task f' ≡ task f → course f' ≡ course f →
       ((set : Setting) → serves set code → set.limits ≡ limits → StandsFor task course holds set f → Resumed task course holds asked set f' w) → IsLending task course holds Of b f' × ((set : Setting) → Of set → RestsAs task course holds set f' waits)
   rests_now b f f' w waits is lending same-task same-course wanted =
       let rest : (set : Setting) → Of set → StandsFor task course holds set f' × RestsAs task course holds set f' waits = λ set of.
@@ -217,7 +236,7 @@ module _ {F : Type 0} (task : F → ℕ) (course : F → Course) (holds : Settin
   }
 
   -- a fiber that rests is given back
-  pub given : (b b' : kept.Board F) (f : F) (waits : Option BoxName) → IsLending task course holds Of b f → ((set : Setting) → Of set → RestsAs task course holds set f waits) → GiveAnswers (seen b) 0 (seen b') f waits → IsRoomy b' →
+  pub given : (b b' : kept.Board F) (f : F) (waits : Option Waits) → IsLending task course holds Of b f → ((set : Setting) → Of set → RestsAs task course holds set f waits) → GiveAnswers (seen b) 0 (seen b') f waits → IsRoomy b' →
       ((set : Setting) → BoardStands task course holds set (seen b) → RestsAs task course holds set f waits → CourseAt (seen b) (task f) (course f) → BoardStands task course holds set (seen b')) → IsResting task course holds Of b'
   given b b' f waits lending rests did roomy kept-it =
       let k = give_keeps (seen b) (seen b') f waits did in record {
@@ -229,11 +248,11 @@ module _ {F : Type 0} (task : F → ℕ) (course : F → Course) (holds : Settin
             kept-it set s.0 (rests set of) s.2;
       }
     where
-      give_keeps : (b b' : Board F) (f : F) (waits : Option BoxName) → GiveAnswers b 0 b' f waits → (b'.cells ≡ slice_set b.cells 0 None) × (b'.stopped ≡ b.stopped)
+      give_keeps : (b b' : Board F) (f : F) (waits : Option Waits) → GiveAnswers b 0 b' f waits → (b'.cells ≡ slice_set b.cells 0 None) × (b'.stopped ≡ b.stopped)
       give_keeps b b' f None did = (did.cells, did.stopped)
-      give_keeps b b' f (Some box) did = give_at (length (b.mails box).queue == 0) did
+      give_keeps b b' f (Some v) did = give_at (has_to_wait b.mails v) did
         where
-          give_at : (y : Bool) → gives_at y b 0 b' f box → (b'.cells ≡ slice_set b.cells 0 None) × (b'.stopped ≡ b.stopped)
+          give_at : (y : Bool) → gives_at y b 0 b' f v → (b'.cells ≡ slice_set b.cells 0 None) × (b'.stopped ≡ b.stopped)
           give_at true did = (did.cells, did.stopped)
           give_at false did = (did.cells, did.stopped)
 
@@ -246,11 +265,15 @@ module _ {F : Type 0} (task : F → ℕ) (course : F → Course) (holds : Settin
 -- ---- less is left to do
 
 module _ {F : Type 0} (task : F → ℕ) (course : F → Course) (holds asked : Setting → F → Lone → Type 0) (set : Setting) where
-  pub counted : (b' : Board F) (f : F) (w : Wants F) (a : Answer) (before after : ℕ) (r : Option BoxName) → IsGoing w → Resumed task course holds asked set f w → IsAnswered set b' (task f) (course f) (wish_in w) (acted.Answer a) →
-      ((wish : Wish) (deed : Option Deed) → Asks task course asked set f wish → Fits set.program wish a deed → CountsRightly wish before after r deed) → ((before < after) × (r ≡ None)) ⊎ ((box : BoxName) × (w ≡ wants.Take box) × (a ≡ answer.Nothing) × (after ≡ before) × (r ≡ Some box))
+  pub counted : (b' : Board F) (f : F) (w : Wants F) (a : Answer) (before after : ℕ) (r : Option Waits) → IsGoing w → Resumed task course holds asked set f w → IsAnswered set b' (task f) (course f) (wish_in w) (acted.Answer a) →
+      ((wish : Wish) (deed : Option Deed) → Asks task course asked set f wish → Fits set.program wish a deed → CountsRightly wish before after r deed) → ((before < after) × (r ≡ None)) ⊎ ((v : Waits) × IsRefused v w a × (after ≡ before) × (r ≡ Some v))
   counted b' f (wants.Put box tree shape) (answer.Sent n) before after r goes s x ans = inl (subst (λ d. CountsRightly (ToPut box shape) before after r d) x.1 (ans (ToPut box shape) x.0 s.0 x.1))
+  counted b' f (wants.PutWait box tree shape) (answer.Sent n) before after r goes s x ans = inl (subst (λ d. CountsRightly (ToPutWait box shape) before after r d) x.1 (ans (ToPutWait box shape) x.0 s.0 x.1))
+  counted b' f (wants.PutWait box tree shape) (answer.Full back same) before after r goes s x ans =
+      let k : (after ≡ before) × (r ≡ Some (wait.Put box)) = subst (λ d. CountsRightly (ToPutWait box shape) before after r d) x.1.0 (ans (ToPutWait box shape) x.0 s.0 x.1) in inr (wait.Put box, (tree, shape, back, same, refl, refl), k.0, k.1)
+  counted b' f (wants.Bound box most) answer.Done before after r goes s x ans = inl (subst (λ d. CountsRightly (ToBound box most) before after r d) x.1 (ans (ToBound box most) x.0 s.0 x.1))
   counted b' f (wants.Take box) (answer.Message tree n) before after r goes s x ans = inl (subst (λ d. CountsRightly (ToTake box) before after r d) x.1.2 (ans (ToTake box) x.0 s x.1))
-  counted b' f (wants.Take box) answer.Nothing before after r goes s x ans = let k : (after ≡ before) × (r ≡ Some box) = subst (λ d. CountsRightly (ToTake box) before after r d) x.1 (ans (ToTake box) x.0 s x.1) in inr (box, refl, refl, k.0, k.1)
+  counted b' f (wants.Take box) answer.Nothing before after r goes s x ans = let k : (after ≡ before) × (r ≡ Some (wait.Take box)) = subst (λ d. CountsRightly (ToTake box) before after r d) x.1 (ans (ToTake box) x.0 s x.1) in inr (wait.Take box, (refl, refl), k.0, k.1)
   counted b' f (wants.Probe box) (answer.Message tree n) before after r goes s x ans = inl (subst (λ d. CountsRightly (ToProbe box) before after r d) x.1.2 (ans (ToProbe box) x.0 s x.1))
   counted b' f (wants.Probe box) answer.Nothing before after r goes s x ans = inl (subst (λ d. CountsRightly (ToProbe box) before after r d) x.1 (ans (ToProbe box) x.0 s x.1))
   counted b' f (wants.Start new shape) (answer.Started k) before after r goes s x ans = inl (subst (λ d. CountsRightly (ToStart shape) before after r d) x.1 (ans (ToStart shape) x.0 s.0 x.1))
@@ -259,8 +282,10 @@ module _ {F : Type 0} (task : F → ℕ) (course : F → Course) (holds asked : 
   counted b' f (wants.End why) a before after r goes s x ans = absurd goes
   counted b' f _ _ before after r goes s x ans = absurd x.1
 
-pub going_none : {F : Type 0} (w : Wants F) (rests : Bool) (r : Option BoxName) (before after : ℕ) → IsGoing w → RestsRightly rests r before after w → r ≡ None
+pub going_none : {F : Type 0} (w : Wants F) (rests : Bool) (r : Option Waits) (before after : ℕ) → IsGoing w → RestsRightly rests r before after w → r ≡ None
 going_none (wants.Put box tree shape) rests r before after goes e = e
+going_none (wants.PutWait box tree shape) rests r before after goes e = e
+going_none (wants.Bound box most) rests r before after goes e = e
 going_none (wants.Take box) rests r before after goes e = e
 going_none (wants.Probe box) rests r before after goes e = e
 going_none (wants.Start f shape) rests r before after goes e = e
@@ -268,28 +293,27 @@ going_none (wants.Print shape) rests r before after goes e = e
 going_none (wants.Rest o) rests r before after goes e = absurd goes
 going_none (wants.End why) rests r before after goes e = absurd goes
 
-module _ {F : Type 0} (task count : F → ℕ) (rests : F → Bool) (refused : F → Option BoxName) (n : ℕ) (numbered : F → F → ℕ → Type 0) (same-refused : (f f' : F) (k : ℕ) → numbered f f' k → refused f' ≡ refused f) where
+module _ {F : Type 0} (task count : F → ℕ) (rests : F → Bool) (refused : F → Option Waits) (n : ℕ) (numbered : F → F → ℕ → Type 0) (same-refused : (f f' : F) (k : ℕ) → numbered f f' k → refused f' ≡ refused f) where
   pub falls_on : (b b1 b2 : kept.Board F) (f f1 f2 : F) (w : Wants F) (a : Answer) → SameBoard (seen b) (seen b1) → ActAnswers numbered (seen b1) 0 (task f1) (seen b2) w (acted.Answer a) → StartsFresh rests refused w → IsCalm refused (seen b) →
-      refused f ≡ None → count f ≤ count f1 → count f1 ≤ n → count f2 ≤ n → ((count f1 < count f2) × (refused f2 ≡ None)) ⊎ ((box : BoxName) × (w ≡ wants.Take box) × (a ≡ answer.Nothing) × (count f2 ≡ count f1) × (refused f2 ≡ Some box)) →
-      IsCalm refused (seen b2) × EmptyAt refused b2 f2 × (todo count refused n b2 f2 < todo count refused n b f)
+      refused f ≡ None → count f ≤ count f1 → count f1 ≤ n → count f2 ≤ n → ((count f1 < count f2) × (refused f2 ≡ None)) ⊎ ((v : Waits) × IsRefused v w a × (count f2 ≡ count f1) × (refused f2 ≡ Some v)) →
+      IsCalm refused (seen b2) × WaitsAt refused b2 f2 × (todo count refused n b2 f2 < todo count refused n b f)
   falls_on b b1 b2 f f1 f2 w a same did fresh calm none up most most2 (inl (more, clear)) =
       let l = act_left task count n numbered (seen b1) (seen b2) 0 (task f1) w (acted.Answer a) did in
       let e = same_left task count n (seen b) (seen b1) same.spots.ready same.spots.parked same.run.tasks in
       let r : one_if_none (refused f) ≡ 1 = ap one_if_none none in
       let r2 : one_if_none (refused f2) ≡ 1 = ap one_if_none clear in (
         act_calm refused rests numbered same-refused (seen b1) (seen b2) 0 (task f1) w (acted.Answer a) did fresh (same_calm refused (seen b) (seen b1) same.spots.ready same.spots.parked calm),
-        (λ box is. absurd (let k : None ≡ Some box = sym clear ∙ is in cc)),
+        (λ v is. absurd (let k : None ≡ Some v = sym clear ∙ is in cc)),
         omega arith,
       )
-  falls_on b b1 b2 f f1 f2 w a same did fresh calm none up most most2 (inr (box, is-take, is-nothing, still, now)) =
-      let did' : ActAnswers numbered (seen b1) 0 (task f1) (seen b2) (wants.Take box) (acted.Answer answer.Nothing) = subst (λ x. ActAnswers numbered (seen b1) 0 (task f1) (seen b2) (wants.Take box) (acted.Answer x)) is-nothing (subst (λ x. ActAnswers numbered (seen b1) 0 (task f1) (seen b2) x (acted.Answer a)) is-take did) in
-      let l = nothing_left task count n numbered (seen b1) (seen b2) 0 (task f1) box did' in
+  falls_on b b1 b2 f f1 f2 w a same did fresh calm none up most most2 (inr (v, is-refused, still, now)) =
+      let l = refused_left task count n numbered (seen b1) (seen b2) 0 (task f1) v w a is-refused did in
       let l0 = l.0 in
       let e = same_left task count n (seen b) (seen b1) same.spots.ready same.spots.parked same.run.tasks in
       let r : one_if_none (refused f) ≡ 1 = ap one_if_none none in
       let r2 : one_if_none (refused f2) ≡ 0 = ap one_if_none now in (
         act_calm refused rests numbered same-refused (seen b1) (seen b2) 0 (task f1) w (acted.Answer a) did fresh (same_calm refused (seen b) (seen b1) same.spots.ready same.spots.parked calm),
-        (λ x is. let k : Some box ≡ Some x = sym now ∙ is in let j : box ≡ x = cc in ap (λ (y : BoxName). ((seen b2).mails y).queue) (sym j) ∙ l.1),
+        (λ x is. let k : Some v ≡ Some x = sym now ∙ is in let j : v ≡ x = cc in ap (λ (y : Waits). has_to_wait (seen b2).mails y) (sym j) ∙ l.1),
         omega arith,
       )
 
@@ -297,16 +321,16 @@ module _ {F : Type 0} (task count : F → ℕ) (rests : F → Bool) (refused : F
   falls_over b b1 b2 f same e calm = let k = same_left task count n (seen b) (seen b1) same.spots.ready same.spots.parked same.run.tasks in (calm, omega arith)
 
   -- a fiber that rests is given back: behind a yield it is ready, and at the mailbox that refused it it is parked
-  pub falls_rest : (b : kept.Board F) (b1 : Board F) (f f1 : F) (waits : Option BoxName) (at-rest : Bool) → GiveAnswers (seen b) 0 b1 f1 waits → RestsRightly {F = F} at-rest (refused f) (count f) (count f1) (wants.Rest waits) → refused f1 ≡ None → count f ≤ count f1 → count f1 ≤ n →
-      EmptyAt refused b f → IsCalm refused (seen b) → IsCalm refused b1 × (left count n b1 ≤ todo count refused n b f)
+  pub falls_rest : (b : kept.Board F) (b1 : Board F) (f f1 : F) (waits : Option Waits) (at-rest : Bool) → GiveAnswers (seen b) 0 b1 f1 waits → RestsRightly {F = F} at-rest (refused f) (count f) (count f1) (wants.Rest waits) → refused f1 ≡ None → count f ≤ count f1 → count f1 ≤ n →
+      WaitsAt refused b f → IsCalm refused (seen b) → IsCalm refused b1 × (left count n b1 ≤ todo count refused n b f)
   falls_rest b b1 f f1 None at-rest gives rightly clear up most empty calm =
       let l = back_left task count n (seen b) b1 0 f1 gives in
       let r : one_if_none (refused f) ≡ 1 = ap one_if_none rightly.0 in
       let more = rightly.1 in
       (back_calm refused (seen b) b1 0 f1 gives clear calm, omega arith)
-  falls_rest b b1 f f1 (Some box) at-rest gives rightly clear up most empty calm =
-      let none : (length ((seen b).mails box).queue == 0) ≡ true = ap (λ (q : List (ℕ × Tree)). length q == 0) (empty box rightly.0) in
-      let parks : Parks (seen b) 0 b1 f1 box = subst (λ y. gives_at y (seen b) 0 b1 f1 box) none gives in
-      let l = park_left task count n (seen b) b1 0 f1 box parks in
+  falls_rest b b1 f f1 (Some v) at-rest gives rightly clear up most waits calm =
+      let has : has_to_wait (seen b).mails v ≡ true = waits v rightly.0 in
+      let parks : Parks (seen b) 0 b1 f1 v = subst (λ y. gives_at y (seen b) 0 b1 f1 v) has gives in
+      let l = park_left task count n (seen b) b1 0 f1 v parks in
       let r : one_if_none (refused f) ≡ 0 = ap one_if_none rightly.0 in
-      (park_calm refused (seen b) b1 0 f1 box parks clear calm, omega arith)
+      (park_calm refused (seen b) b1 0 f1 v parks clear calm, omega arith)

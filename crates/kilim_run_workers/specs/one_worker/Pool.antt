@@ -2,15 +2,15 @@
 use Rattle.std.specs.List.{sum_by, AllByRecursion}
 use Rattle.kilim_run_model.specs.Turn.{task_limit}
 use Rattle.kilim_run_board.specs.declared.waiting.parked.Waiter.{Waiter}
-use Rattle.std.specs.Prelude.{◌≡◌, ◌+◌, ◌-◌, ◌*◌, ◌<◌, ◌≤◌, ℕ, false, [], ◌∷◌, Option, Some, None}
-use Rattle.kilim_program.specs.declared.names.BoxName.{BoxName}
+use Rattle.std.specs.Prelude.{◌≡◌, ◌+◌, ◌-◌, ◌*◌, ◌<◌, ◌≤◌, ℕ, true, false, ◌∷◌, [], Option, Some, None}
 use Rattle.kilim_program.specs.declared.names.ClassId.{ClassId}
 use Rattle.kilim_run_state.specs.declared.run.Limits.{Limits}
 use Rattle.kilim_run_model.specs.State.{Setting}
+use Rattle.kilim_run_model.specs.declared.waits.Waits.{Waits}
 use Rattle.kilim_run_board.specs.fibers.Fibers.{IsOfRun, StandsFor}
 use Rattle.kilim_run_board.specs.declared.board.Board as kept
 use Rattle.kilim_run_board.specs.Board.{Board, BoardStands}
-use Rattle.kilim_run_board.specs.waiting.Mailboxes.{mail_of}
+use Rattle.kilim_run_board.specs.waiting.Mailboxes.{mail_of, has_to_wait}
 use Rattle.kilim_run_board.specs.Seen.{seen, GiveAnswers, IsRoomy, CourseAt, RestsAs}
 use Rattle.kilim_run_workers.specs.declared.one_worker.Next.{Next}
 use Rattle.kilim_run_workers.specs.declared.one_worker.Next.TheVariants as next
@@ -60,7 +60,7 @@ module _ {F : Type 0} (count : F → ℕ) (n : ℕ) where
   abbrev pub left : Board F → ℕ
   left b = sum_by ready_weight b.ready + sum_by parked_weight b.parked + (task_limit - b.tasks) * (3 * n + 2)
 
-module _ {F : Type 0} (refused : F → Option BoxName) where
+module _ {F : Type 0} (refused : F → Option Waits) where
   abbrev pub IsCalmFiber : F → Type 0
   IsCalmFiber f = refused f ≡ None
 
@@ -71,21 +71,21 @@ module _ {F : Type 0} (refused : F → Option BoxName) where
     pub ready : AllByRecursion IsCalmFiber b.ready
     pub parked : AllByRecursion IsCalmWaiter b.parked
 
-  -- a fiber that was just answered nothing finds its mailbox empty
-  abbrev pub EmptyAt : kept.Board F → F → Type 0
-  EmptyAt b f = (box : BoxName) → refused f ≡ Some box → (mail_of b.mailboxes box).queue ≡ []
+  -- a fiber that was just refused has to wait
+  abbrev pub WaitsAt : kept.Board F → F → Type 0
+  WaitsAt b f = (v : Waits) → refused f ≡ Some v → has_to_wait (mail_of b.mailboxes) v ≡ true
 
-abbrev pub one_if_none : Option BoxName → ℕ
+abbrev pub one_if_none : Option Waits → ℕ
 one_if_none None = 1
-one_if_none (Some box) = 0
+one_if_none (Some v) = 0
 
-module _ {F : Type 0} (count : F → ℕ) (refused : F → Option BoxName) (n : ℕ) where
+module _ {F : Type 0} (count : F → ℕ) (refused : F → Option Waits) (n : ℕ) where
   -- with a fiber that is lent
   abbrev pub todo : kept.Board F → F → ℕ
   todo b f = left count n (seen b) + weight count n f + one_if_none (refused f)
 
   -- a fiber that rests is still to be given back
   abbrev pub Falls : ℕ → kept.Board F → F → Next → Type 0
-  Falls before b' f next.On = IsCalm refused (seen b') × EmptyAt refused b' f × (todo b' f < before)
+  Falls before b' f next.On = IsCalm refused (seen b') × WaitsAt refused b' f × (todo b' f < before)
   Falls before b' f next.Over = IsCalm refused (seen b') × (left count n (seen b') ≤ before)
   Falls before b' f (next.Rests waits) = (b'' : Board F) → GiveAnswers (seen b') 0 b'' f waits → IsCalm refused b'' × (left count n b'' ≤ before)

@@ -5,6 +5,12 @@ use Rattle.kilim_fiber.proofs.named.with_program.Goals as goal
 pub returns-in-Put : goal.returns-in-Put
 returns-in-Put g c = sym c.in-Put.is
 
+pub returns-in-PutWait : goal.returns-in-PutWait
+returns-in-PutWait g c = sym c.in-PutWait.is
+
+pub returns-in-Bound : goal.returns-in-Bound
+returns-in-Bound g c = sym c.in-Bound.is
+
 pub returns-in-Take : goal.returns-in-Take
 returns-in-Take g c = sym c.in-Take.is
 

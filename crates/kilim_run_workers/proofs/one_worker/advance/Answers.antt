@@ -1,7 +1,7 @@
 use Rattle.std.proofs.Common.{ap, ◌∙◌, subst}
 use Rattle.std.specs.Prelude.{slice_get}
 use Rattle.kilim_run_board.specs.Seen.{IsNumbered}
-use Rattle.kilim_run_workers.proofs.one_worker.Steps.{going, actable, resumed, lent_now, done_now, asked_by, can_answer, goes_on, is_over, is_ended, counted, going_none, falls_on, falls_over, falls_rest, rests_now}
+use Rattle.kilim_run_workers.proofs.one_worker.Steps.{going, actable, resumed, lent_now, may_now, done_now, asked_by, can_answer, goes_on, is_over, is_ended, counted, going_none, falls_on, falls_over, falls_rest, rests_now}
 use Rattle.kilim_run_workers.proofs.one_worker.Measures.{over_left, act_calm, same_calm}
 use Rattle.std.proofs.Common.{◌≤◌}
 use Rattle.kilim_run_state.specs.declared.run.Limits.{Limits}
@@ -21,6 +21,7 @@ act-requires-in_default-wants g c =
       roomy = c.in-Ok-reserve-2.ensures.roomy;
       room = c.in-Ok-reserve-2.ensures.room;
       acts = actable g.F.Fibers.task_of g.F.Fibers.course_of g.F.Fibers.holds g.F.Fibers.asked c.requires.some.0 g.F.Fibers.count_of c.resume.new.self c.in-Ok.wants (going c.in-Ok.wants c.in_default-wants.not-Rest c.in_default-wants.not-End) (now.stands c.requires.some.0 c.requires.some.1).2 c.in-Ok.ensures.none;
+      bounds = may_now g.F.Fibers.task_of g.F.Fibers.course_of g.F.Fibers.holds g.F.Fibers.asked g.F.Fibers.serves c.args.code.now c.args.main c.args.limits.now c.reserve-in_default-wants.new.self c.resume.new.self c.in-Ok.wants now g.F.Fibers.count_of g.F.Fibers.refused (going c.in-Ok.wants c.in_default-wants.not-Rest c.in_default-wants.not-End) c.requires.some;
     }
 
 pub answer-requires : goal.answer-requires

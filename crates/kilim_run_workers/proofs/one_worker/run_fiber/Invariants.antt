@@ -1,11 +1,11 @@
 use Rattle.std.proofs.Common.{◌≤◌}
 use Rattle.kilim_run_board.specs.Seen.{seen}
-use Rattle.kilim_run_workers.specs.one_worker.Pool.{IsOf, IsLending, IsCalm, EmptyAt, todo}
+use Rattle.kilim_run_workers.specs.one_worker.Pool.{IsOf, IsLending, IsCalm, WaitsAt, todo}
 use Rattle.kilim_run_workers.proofs.one_worker.run_fiber.Given as goal
 
 abbrev pub invariant-loop-next : goal.invariant-loop-next
 invariant-loop-next g l =
-    IsLending g.F.Fibers.task_of g.F.Fibers.course_of g.F.Fibers.holds (IsOf g.F.Fibers.serves l.fn.code l.fn.main l.fn.limits) l.board l.fiber × IsCalm g.F.Fibers.refused (seen l.board) × EmptyAt g.F.Fibers.refused l.board l.fiber
+    IsLending g.F.Fibers.task_of g.F.Fibers.course_of g.F.Fibers.holds (IsOf g.F.Fibers.serves l.fn.code l.fn.main l.fn.limits) l.board l.fiber × IsCalm g.F.Fibers.refused (seen l.board) × WaitsAt g.F.Fibers.refused l.board l.fiber
     × (todo g.F.Fibers.count_of g.F.Fibers.refused l.fn.limits.steps l.board l.fiber ≤ todo g.F.Fibers.count_of g.F.Fibers.refused l.fn.limits.steps l.fn.board l.fn.fiber)
 
 abbrev pub decreases-loop-next : goal.decreases-loop-next

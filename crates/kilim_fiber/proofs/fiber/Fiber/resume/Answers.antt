@@ -32,14 +32,14 @@ pub returns-in-Some-clause-gives : goal.returns-in-Some-clause-gives
 returns-in-Some-clause-gives c =
     let f = c.args.self.now in
     let reached = c.in-Ok.ensures in
-    rest_ok c.args.code.now c.args.limits.now f (record f { body = c.reach.new.body }) c.rest_at.new.self c.in-Some.mailbox c.in-Ok.came c.rest_at.result c.if-self.false refl reached.roomy reached.counted reached.most c.in-Some.is
+    rest_ok c.args.code.now c.args.limits.now f (record f { body = c.reach.new.body }) c.rest_at.new.self c.in-Some.waits c.in-Ok.came c.rest_at.result c.if-self.false refl reached.roomy reached.counted reached.most c.in-Some.is
     (came_by c.args.code.now c.args.limits.now f c.if-self.false c.reach.new.body (Ok c.in-Ok.came) reached.reaches reached.wanting reached.room) c.rest_at.ensures
 
 pub returns-in-Some-clause-rests : goal.returns-in-Some-clause-rests
 returns-in-Some-clause-rests c =
     let f = c.args.self.now in
     let reached = c.in-Ok.ensures in
-    refused_rests c.args.code.now c.args.limits.now f (record f { body = c.reach.new.body }) c.rest_at.new.self c.in-Some.mailbox c.in-Ok.came c.rest_at.result c.if-self.false refl c.requires
+    refused_rests c.args.code.now c.args.limits.now f (record f { body = c.reach.new.body }) c.rest_at.new.self c.in-Some.waits c.in-Ok.came c.rest_at.result c.if-self.false refl c.requires
     (none_is_left (setting_of c.args.code.now c.args.limits.now f.main) c.args.code.now.program c.args.code.now.counted f.task (standing_at 0 f.body) c.reach.new.body (Ok c.in-Ok.came) reached.reaches)
     (came_by c.args.code.now c.args.limits.now f c.if-self.false c.reach.new.body (Ok c.in-Ok.came) reached.reaches reached.wanting reached.room) c.rest_at.ensures
 

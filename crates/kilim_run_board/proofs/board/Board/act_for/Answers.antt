@@ -12,6 +12,22 @@ returns-in-Put-clause-effect g c =
 pub returns-in-Put-clause-roomy : goal.returns-in-Put-clause-roomy
 returns-in-Put-clause-roomy g c = c.put_or_end.ensures.roomy
 
+pub returns-in-PutWait-clause-effect : goal.returns-in-PutWait-clause-effect
+returns-in-PutWait-clause-effect g c =
+    subst (λ w. ActAnswers (IsNumbered g.F.Fibers.task_of g.F.Fibers.course_of g.F.Fibers.count_of g.F.Fibers.refused g.F.Fibers.holds) (seen c.args.self.now) c.args.seat c.args.task (seen c.put_or_wait.new.self) w c.put_or_wait.result)
+    (sym c.in-PutWait.is) c.put_or_wait.ensures.effect
+
+pub returns-in-PutWait-clause-roomy : goal.returns-in-PutWait-clause-roomy
+returns-in-PutWait-clause-roomy g c = c.put_or_wait.ensures.roomy
+
+pub returns-in-Bound-clause-effect : goal.returns-in-Bound-clause-effect
+returns-in-Bound-clause-effect g c =
+    subst (λ w. ActAnswers (IsNumbered g.F.Fibers.task_of g.F.Fibers.course_of g.F.Fibers.count_of g.F.Fibers.refused g.F.Fibers.holds) (seen c.args.self.now) c.args.seat c.args.task (seen c.bound.new.self) w (acted.Answer answer.Done))
+    (sym c.in-Bound.is) c.bound.ensures.effect
+
+pub returns-in-Bound-clause-roomy : goal.returns-in-Bound-clause-roomy
+returns-in-Bound-clause-roomy g c = c.bound.ensures.roomy
+
 pub returns-in-Some-clause-effect : goal.returns-in-Some-clause-effect
 returns-in-Some-clause-effect g c =
     subst (λ w. ActAnswers (IsNumbered g.F.Fibers.task_of g.F.Fibers.course_of g.F.Fibers.count_of g.F.Fibers.refused g.F.Fibers.holds) (seen c.args.self.now) c.args.seat c.args.task (seen c.take.new.self) w (acted.Answer (answer.Message c.in-Some.tree c.in-Some.number)))

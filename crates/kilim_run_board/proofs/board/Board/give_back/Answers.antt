@@ -1,5 +1,5 @@
 use Rattle.std.proofs.Common.{ℕ, ◌<◌, arith, length, subst, ◌≡◌, ◌==◌, true, false, ◌∙◌, sym, refl}
-use Rattle.kilim_run_board.specs.waiting.Mailboxes.{mail_of}
+use Rattle.kilim_run_board.specs.waiting.Mailboxes.{mail_of, has_to_wait}
 use Rattle.kilim_run_board.specs.Seen.{seen}
 use Rattle.kilim_run_board.proofs.Seats.{lent_emptied, seat_there}
 use Rattle.kilim_run_board.proofs.Closing.{give_stands}
@@ -26,14 +26,14 @@ line_up-requires-in-None g c =
     let h = lent_emptied c.args.self.now.cells.items c.args.seat _ c.requires.lent in
     let f = r.fits in let k = r.ready in omega arith
 
-pub returns-then-is_empty-clause-effect : goal.returns-then-is_empty-clause-effect
-returns-then-is_empty-clause-effect g c =
-    let empty : (length (mail_of c.args.self.now.mailboxes c.in-Some.mailbox).queue == 0) ≡ true = sym c.is_empty.ensures ∙ c.if-is_empty.true in
-    gives_parked (seen c.args.self.now) _ c.args.seat c.args.fiber c.args.waits c.in-Some.mailbox c.in-Some.is empty
+pub returns-then-has_to_wait-clause-effect : goal.returns-then-has_to_wait-clause-effect
+returns-then-has_to_wait-clause-effect g c =
+    let has : has_to_wait (mail_of c.args.self.now.mailboxes) c.in-Some.waits ≡ true = sym c.has_to_wait.ensures ∙ c.if-has_to_wait.true in
+    gives_parked (seen c.args.self.now) _ c.args.seat c.args.fiber c.args.waits c.in-Some.waits c.in-Some.is has
     (record { run = record { journal = refl; tasks = refl; mails = λ box. refl }; ready = refl; parked = c.park.ensures.items; cells = refl; stopped = refl })
 
-pub returns-then-is_empty-clause-roomy : goal.returns-then-is_empty-clause-roomy
-returns-then-is_empty-clause-roomy g c =
+pub returns-then-has_to_wait-clause-roomy : goal.returns-then-has_to_wait-clause-roomy
+returns-then-has_to_wait-clause-roomy g c =
     let r = c.requires.roomy in
     let h = lent_emptied c.args.self.now.cells.items c.args.seat _ c.requires.lent in
     let l = behind_longer _ c.args.self.now.parked.items c.park.new.self.items c.park.ensures.items in
@@ -41,14 +41,14 @@ returns-then-is_empty-clause-roomy g c =
     let f = r.fits in let k = r.parked in
     record { fits = omega arith; ready = r.ready; parked = omega arith; few = r.few; counted = r.counted }
 
-pub returns-else-is_empty-clause-effect : goal.returns-else-is_empty-clause-effect
-returns-else-is_empty-clause-effect g c =
-    let empty : (length (mail_of c.args.self.now.mailboxes c.in-Some.mailbox).queue == 0) ≡ false = sym c.is_empty.ensures ∙ c.if-is_empty.false in
-    gives_ready (seen c.args.self.now) _ c.args.seat c.args.fiber c.args.waits c.in-Some.mailbox c.in-Some.is empty
+pub returns-else-has_to_wait-clause-effect : goal.returns-else-has_to_wait-clause-effect
+returns-else-has_to_wait-clause-effect g c =
+    let has : has_to_wait (mail_of c.args.self.now.mailboxes) c.in-Some.waits ≡ false = sym c.has_to_wait.ensures ∙ c.if-has_to_wait.false in
+    gives_ready (seen c.args.self.now) _ c.args.seat c.args.fiber c.args.waits c.in-Some.waits c.in-Some.is has
     (record { run = record { journal = refl; tasks = refl; mails = λ box. refl }; ready = c.line_up.ensures.items; parked = refl; cells = refl; stopped = refl })
 
-pub returns-else-is_empty-clause-roomy : goal.returns-else-is_empty-clause-roomy
-returns-else-is_empty-clause-roomy g c =
+pub returns-else-has_to_wait-clause-roomy : goal.returns-else-has_to_wait-clause-roomy
+returns-else-has_to_wait-clause-roomy g c =
     let r = c.requires.roomy in
     let h = lent_emptied c.args.self.now.cells.items c.args.seat _ c.requires.lent in
     let l = longer c.args.self.now.ready.items c.line_up.new.ready.items _ c.line_up.ensures.items in
@@ -70,13 +70,13 @@ returns-in-None-clause-roomy g c =
     let f = r.fits in let k = r.ready in
     record { fits = omega arith; ready = omega arith; parked = r.parked; few = r.few; counted = r.counted }
 
-pub returns-then-is_empty-clause-stands : goal.returns-then-is_empty-clause-stands
-returns-then-is_empty-clause-stands g c = λ set st rests at.
-    give_stands g.F.Fibers.task_of g.F.Fibers.course_of g.F.Fibers.holds set (seen c.args.self.now) _ c.args.seat c.args.fiber c.args.waits c.requires.lent (returns-then-is_empty-clause-effect g c) st rests at
+pub returns-then-has_to_wait-clause-stands : goal.returns-then-has_to_wait-clause-stands
+returns-then-has_to_wait-clause-stands g c = λ set st rests at.
+    give_stands g.F.Fibers.task_of g.F.Fibers.course_of g.F.Fibers.holds set (seen c.args.self.now) _ c.args.seat c.args.fiber c.args.waits c.requires.lent (returns-then-has_to_wait-clause-effect g c) st rests at
 
-pub returns-else-is_empty-clause-stands : goal.returns-else-is_empty-clause-stands
-returns-else-is_empty-clause-stands g c = λ set st rests at.
-    give_stands g.F.Fibers.task_of g.F.Fibers.course_of g.F.Fibers.holds set (seen c.args.self.now) _ c.args.seat c.args.fiber c.args.waits c.requires.lent (returns-else-is_empty-clause-effect g c) st rests at
+pub returns-else-has_to_wait-clause-stands : goal.returns-else-has_to_wait-clause-stands
+returns-else-has_to_wait-clause-stands g c = λ set st rests at.
+    give_stands g.F.Fibers.task_of g.F.Fibers.course_of g.F.Fibers.holds set (seen c.args.self.now) _ c.args.seat c.args.fiber c.args.waits c.requires.lent (returns-else-has_to_wait-clause-effect g c) st rests at
 
 pub returns-in-None-clause-stands : goal.returns-in-None-clause-stands
 returns-in-None-clause-stands g c = λ set st rests at.

@@ -57,14 +57,14 @@ returns-in-Put-clause-roomy g c = roomy_as c.args.self.now _ c.requires.roomy (r
 pub returns-in-Take-clause-same : goal.returns-in-Take-clause-same
 returns-in-Take-clause-same g c = record {
   run = record { journal = c.reserve.ensures.items; tasks = refl; mails = λ box. refl };
-  spots = record { ready = refl; parked = c.make_places.ensures.items; cells = refl; stopped = refl };
+  spots = record { ready = refl; parked = c.make_places-in-Take.ensures.items; cells = refl; stopped = refl };
 }
 
 pub returns-in-Take-clause-stands : goal.returns-in-Take-clause-stands
 returns-in-Take-clause-stands g c = λ set st. same_stands g.F.Fibers.task_of g.F.Fibers.course_of g.F.Fibers.holds set (seen c.args.self.now) _ (returns-in-Take-clause-same g c) st
 
 pub returns-in-Take-clause-roomy : goal.returns-in-Take-clause-roomy
-returns-in-Take-clause-roomy g c = roomy_as c.args.self.now _ c.requires.roomy (returns-in-Take-clause-same g c) (room_kept _ _ refl) (room_kept _ _ c.make_places.ensures.room)
+returns-in-Take-clause-roomy g c = roomy_as c.args.self.now _ c.requires.roomy (returns-in-Take-clause-same g c) (room_kept _ _ refl) (room_kept _ _ c.make_places-in-Take.ensures.room)
 
 pub returns-in_default-wants-clause-same : goal.returns-in_default-wants-clause-same
 returns-in_default-wants-clause-same g c = record {
@@ -83,7 +83,7 @@ returns-in_default-wants-clause-room g c =
     let more = c.in-Ok.ensures.ok in
     let is = c.reserve.new.self.ok in
     let room : length c.reserve.new.self.items < vec_capacity c.reserve.new.self = omega arith in
-    room_else (record c.args.self.now { journal = c.reserve.new.self }) c.args.wants.now c.in_default-wants.not-Put c.in_default-wants.not-Start room
+    room_else (record c.args.self.now { journal = c.reserve.new.self }) c.args.wants.now c.in_default-wants.not-Put c.in_default-wants.not-PutWait c.in_default-wants.not-Bound c.in_default-wants.not-Start room
 
 pub returns-in-Put-clause-room : goal.returns-in-Put-clause-room
 returns-in-Put-clause-room g c =
@@ -97,7 +97,7 @@ returns-in-Take-clause-room g c =
     let more = c.in-Ok.ensures.ok in
     let is = c.reserve.new.self.ok in
     let room : length c.reserve.new.self.items < vec_capacity c.reserve.new.self = omega arith in
-    room_take c.make_places.result (record c.args.self.now { journal = c.reserve.new.self; parked = c.make_places.new.self }) c.args.wants.now _ c.in-Take.is room
+    room_take c.make_places-in-Take.result (record c.args.self.now { journal = c.reserve.new.self; parked = c.make_places-in-Take.new.self }) c.args.wants.now _ c.in-Take.is room
 
 pub returns-in-Ok-reserve-clause-room : goal.returns-in-Ok-reserve-clause-room
 returns-in-Ok-reserve-clause-room g c =

@@ -14,7 +14,10 @@ returns-in-Some-clause-effect g c = (
     tasks = refl;
     queue = subst (λ o. IfSome o (λ m. (mail_of c.args.self.now.mailboxes c.args.mailbox).queue ≡ m ∷ (mail_of c.take_message.new.self c.args.mailbox).queue)) c.in-Some.is c.take_message.ensures.some;
     mails = subst (λ o. IfSome o (λ _. SameMails (with_mailbox (mail_of c.args.self.now.mailboxes) c.args.mailbox (with_queue (mail_of c.args.self.now.mailboxes c.args.mailbox) (mail_of c.take_message.new.self c.args.mailbox).queue)) (mail_of c.take_message.new.self))) c.in-Some.is c.take_message.ensures.mails;
-    spots = record { ready = refl; parked = refl; cells = refl; stopped = refl };
+    ready = c.wake.ensures.ready;
+    parked = c.wake.ensures.parked;
+    cells = refl;
+    stopped = refl;
   },
 )
 
@@ -22,10 +25,12 @@ pub returns-in-Some-clause-roomy : goal.returns-in-Some-clause-roomy
 returns-in-Some-clause-roomy g c =
     let r = c.requires.roomy in
     let l = longer c.args.self.now.journal.items c.note.new.journal.items _ c.note.ensures in
+    let w = c.wake.ensures in
+    let f = r.fits in let k = r.ready in let m = r.parked in
     record {
-      fits = r.fits;
-      ready = r.ready;
-      parked = r.parked;
+      fits = omega arith;
+      ready = omega arith;
+      parked = omega arith;
       few = r.few;
       counted = counted_took (mail_of c.args.self.now.mailboxes) (mail_of c.take_message.new.self) c.args.mailbox (mail_of c.take_message.new.self c.args.mailbox).queue (length c.args.self.now.journal.items) (length c.note.new.journal.items) r.counted
           (subst (λ o. IfSome o (λ _. SameMails (with_mailbox (mail_of c.args.self.now.mailboxes) c.args.mailbox (with_queue (mail_of c.args.self.now.mailboxes c.args.mailbox) (mail_of c.take_message.new.self c.args.mailbox).queue)) (mail_of c.take_message.new.self))) c.in-Some.is c.take_message.ensures.mails) (omega arith);

@@ -7,4 +7,4 @@ use Rattle.kilim_run_board.proofs.waiting.parked.open.Goals as goal
 pub returns : goal.returns
 returns g c =
     ap (in_order deque_items) c.in-Ok-insert.ensures.entries
-    ∙ opened deque_items (c.args.mailbox.task, c.args.mailbox.number) c.args.queues.now.entries c.reserve.new.self (c.reserve.ensures.items ∙ c.new-queue.ensures.items) c.requires
+    ∙ opened deque_items c.args.key c.args.queues.now.entries c.reserve.new.self (c.reserve.ensures.items ∙ c.new-queue.ensures.items) c.requires

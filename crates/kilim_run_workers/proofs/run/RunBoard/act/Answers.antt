@@ -3,7 +3,7 @@ use Rattle.kilim_run_board.specs.Seen.{seen, IsNumbered}
 use Rattle.kilim_run_turn.specs.Views.{cell_at}
 use Rattle.kilim_run_turn.specs.Turns.{KeepsOthers}
 use Rattle.kilim_run_workers.specs.Codes.{board_cells}
-use Rattle.kilim_run_workers.proofs.Effects.{all_keep, lent_now, stands_now, others_now, acted_now, is_actable}
+use Rattle.kilim_run_workers.proofs.Effects.{all_keep, lent_now, stands_now, others_now, acted_now, bounds_now, is_actable}
 use Rattle.kilim_run_workers.proofs.Others.{cells_same}
 use Rattle.kilim_run_workers.proofs.run.RunBoard.act.Goals as goal
 
@@ -16,6 +16,11 @@ act-requires-clause-lent g c = (
 
 pub act-requires-clause-acts : goal.act-requires-clause-acts
 act-requires-clause-acts g c = is_actable (seen c.self.inside.board) (seen c.self.inside.board) c.args.seat g.F.Fibers.task_of g.F.Fibers.course_of g.F.Fibers.holds g.K.Run.of c.requires.some g.F.Fibers.count_of (g.F.Fibers.task_of c.args.fiber.now) (g.F.Fibers.course_of c.args.fiber.now) c.args.wants c.requires.meets c.requires.none
+
+pub act-requires-clause-bounds : goal.act-requires-clause-bounds
+act-requires-clause-bounds g c =
+    bounds_now (seen c.self.inside.board) (seen c.reserve.new.self) c.args.seat (g.F.Fibers.task_of c.args.fiber.now) (g.F.Fibers.course_of c.args.fiber.now) c.args.wants g.F.Fibers.task_of g.F.Fibers.course_of g.F.Fibers.holds g.K.Run.of c.requires.some
+    (ap (λ b. cell_at (board_cells b) c.args.seat) c.self.view_is ∙ c.requires.lent) c.in-Ok.ensures.same c.requires.meets (λ set is. c.in-Ok.ensures.stands set (c.self.invariant.1 set is)) g.F.Fibers.count_of g.F.Fibers.refused
 
 pub invariant_of-self : goal.invariant_of-self
 invariant_of-self g c = (
