@@ -244,6 +244,9 @@ fn number_of(
     }
 }
 
+// The caller of `act_near` that is a loop over one frame.
+struct InLoop;
+
 // One instruction of a frame, by its number, unless it counts and none is left that may. `frames` are those below. Where the frame goes on, `at` is
 // the number of the next one.
 #[inline(always)]
@@ -280,7 +283,7 @@ fn do_near(
         return Near::Halts(Halt::Spent);
     }
     let found = instr_at(code, end, *at);
-    match act_near(found.0, program, own, found.1, frame, heap) {
+    match act_near::<InLoop>(found.0, program, own, found.1, frame, heap) {
         Some(Moved::Next) => {
             let next = *at + 1;
             if next < code.len() {

@@ -21,9 +21,12 @@ use kilim_run_state::Heap;
 use kilim_run_state::frames::Frame;
 
 /// One instruction of a frame, a line for each: none where it calls or makes something, and then nothing is done.
+///
+/// Each caller names a type of its own, and so has a copy that nobody else calls. The compiler puts such a copy into its one caller whatever its
+/// size, while it leaves a function of this size where it is that two call: then a loop has its frame in memory at each instruction.
 #[tactic(auto, unfolding(kilim_run_machine::specs::Does::does))]
 #[inline(always)]
-pub fn act_near(
+pub fn act_near<Caller>(
     instr: &Instr,
     program: &Program,
     own: &Method,

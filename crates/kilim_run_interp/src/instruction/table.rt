@@ -46,6 +46,9 @@ fn act_far(
     }
 }
 
+// The caller of `act_near` that does one instruction.
+struct Alone;
+
 /// One instruction of a frame.
 pub fn act(
     alloc: Global,
@@ -61,7 +64,7 @@ pub fn act(
     ensures step { Shows own.now (does program.now own.now instr.now next frame.old.locals frame.old.stack.values heap.old) next result frame.old frame.new heap.old heap.new }
     ensures same { SameFrame frame.old frame.new }
 {
-    match act_near(instr, program, own, next, frame, heap) {
+    match act_near::<Alone>(instr, program, own, next, frame, heap) {
         Some(moved) => moved,
         None => act_far(alloc, instr, program, own, next, frame, heap),
     }
