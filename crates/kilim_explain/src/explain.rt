@@ -3,57 +3,26 @@
 ghost use Rattle.std.specs.Prelude.{◌≡◌, ◌<◌, ◌+◌, ◌++◌, ◌∷◌, [], Some, length, slice_get, OnOk, IfOk};
 ghost use Rattle.kilim_explain.specs.Explains.{Explained, SaidTo};
 
-use crate::advice::Advice;
-use crate::finding::{Wanted, find};
-use crate::java::push_class;
-use crate::linking::{class_advice, is_thrown, link_advice, main_advice, wanted_by, weave_advice};
-use crate::methods::{Tables, code_of, find_class, find_method, method_words, tables_of};
-use crate::paths::{number, places_of};
+use crate::given::{Given, Near, near_of};
+use crate::links::{push_link, push_plain};
+use crate::methods::{Tables, bytes_of, code_of, find_class, find_method, tables_of};
+use crate::paths::places_of;
 use crate::placed::{Spot, push_broken, push_head, push_instead, push_line_at};
-use crate::rules::{advice_of, name_of};
 use crate::sources::{Sources, load};
 use kilim_class_file::{ClassFile, MemberInfo};
+use kilim_explain_words::{
+    Advice, advice_of, class_advice, main_advice, name_of, number, weave_advice,
+};
 use kilim_outside::Folder;
-use kilim_pieces::{Piece, behind, between, push, word};
+use kilim_pieces::{Piece, behind, between, word};
 use kilim_units::NoMemory;
 use std::alloc::Global;
-
-/// The class files that were given: those that can be read, each with the word that names its file, in their order; and where sources are
-/// looked for.
-#[derive(Clone, Copy)]
-pub struct Given<'a> {
-    pub names: &'a [String],
-    pub files: &'a [ClassFile],
-    /// The folder below which sources lie; none for the folders of the class files alone.
-    pub below: Option<&'a str>,
-}
 
 // Where the last fault stood: the next one is mostly in the same method or behind it.
 #[derive(Clone, Copy)]
 struct Cursor {
     class: usize,
     method: usize,
-}
-
-// Where a class's source may lie: beside the file of the class, or below a folder.
-#[derive(Clone, Copy)]
-struct Near<'a> {
-    beside: &'a [u8],
-    below: Option<&'a str>,
-}
-
-fn near_of<'a>(given: Given<'a>, class: usize) -> Near<'a> {
-    Near {
-        below: given.below,
-        beside: name_at(given, class),
-    }
-}
-
-fn name_at<'a>(given: Given<'a>, class: usize) -> &'a [u8] {
-    match given.names.get(class) {
-        Some(name) => name.as_bytes(),
-        None => &[],
-    }
 }
 
 // The place of a class, where the search for the next one begins.
@@ -87,14 +56,6 @@ fn seek_method(
             Ok(true)
         }
         None => Ok(false),
-    }
-}
-
-// The bytes of a method's code.
-fn bytes_of(member: &MemberInfo) -> &[u8] {
-    match code_of(member) {
-        Some(code) => code.code.as_slice(),
-        None => &[],
     }
 }
 
@@ -206,137 +167,6 @@ fn push_placed<F: Folder>(
         return Ok(());
     }
     push_in_method(out, file, near, sources, folder, *cursor, line)
-}
-
-// A fault without a place: what it is of, and what is wrong.
-fn push_plain(
-    out: &mut Vec<u8>,
-    of: &[u8],
-    kind: &'static str,
-    advice: Advice,
-) -> Result<(), NoMemory> {
-    push(out, &[Piece::Text(kind)])?;
-    push_class(out, of)?;
-    push(
-        out,
-        &[
-            Piece::Text(": "),
-            Piece::Text(advice.what),
-            Piece::Text("\n"),
-        ],
-    )?;
-    push_instead(out, advice)
-}
-
-// The same of linking, at a place of a method of these words.
-fn push_told<'x>(
-    out: &mut Vec<u8>,
-    file: &'x ClassFile,
-    member: &'x MemberInfo,
-    tables: &'x Tables,
-    source: &'x Sources,
-    words: (&'x [u8], &'x [u8]),
-    place: usize,
-    advice: Advice,
-) -> Result<(), NoMemory> {
-    let (class, method) = words;
-    let spot = Spot {
-        class,
-        method,
-        file,
-        tables,
-        code: bytes_of(member),
-        source,
-    };
-    push_head(out, spot, place, &[Piece::Text(advice.what)])?;
-    push_line_at(out, spot, place)?;
-    push_instead(out, advice)
-}
-
-// A fault of linking at a place of a method.
-fn push_link_at<F: Folder>(
-    out: &mut Vec<u8>,
-    file: &ClassFile,
-    near: Near<'_>,
-    sources: &mut Sources,
-    folder: &mut F,
-    place: (Cursor, usize),
-    line: &[u8],
-    advice: Advice,
-) -> Result<(), NoMemory> {
-    let (cursor, at) = place;
-    let alloc = *out.allocator();
-    let Some(member) = file.methods.as_slice().get(cursor.method) else {
-        return Ok(());
-    };
-    load(
-        alloc,
-        sources,
-        folder,
-        near.below,
-        file,
-        cursor.class,
-        near.beside,
-    )?;
-    let tables = tables_of(alloc, file, code_of(member))?;
-    let method = method_words(alloc, file, member)?;
-    let class = word(behind(line, 1));
-    let words = (class, method.as_slice());
-    push_told(out, file, member, &tables, sources, words, at, advice)
-}
-
-// Where a fault of linking stands: in code where it is found there, else at the method that the report names.
-fn place_of(
-    alloc: Global,
-    file: &ClassFile,
-    line: &[u8],
-) -> Result<Option<(usize, usize)>, NoMemory> {
-    let kind = word(behind(line, 2));
-    let name = word(behind(line, 3));
-    if let Some(wanted) = wanted_by(kind, name) {
-        return match find(alloc, file, wanted)? {
-            Some(at) => Ok(Some(at)),
-            None if is_thrown(name) => find(alloc, file, Wanted::Handlers),
-            None => Ok(None),
-        };
-    }
-    let at = match number(word(behind(line, 4))) {
-        Some(at) => at,
-        None => 0,
-    };
-    if kind == b"override".as_slice() || kind == b"code".as_slice() {
-        return match find_method(alloc, file, 0, name)? {
-            Some(method) => Ok(Some((method, at))),
-            None => Ok(None),
-        };
-    }
-    Ok(None)
-}
-
-fn push_link<F: Folder>(
-    out: &mut Vec<u8>,
-    given: Given<'_>,
-    sources: &mut Sources,
-    folder: &mut F,
-    line: &[u8],
-) -> Result<(), NoMemory> {
-    let alloc = *out.allocator();
-    let name = word(behind(line, 1));
-    let told = link_advice(word(behind(line, 2)), word(behind(line, 3)));
-    let Some(class) = find_class(alloc, given.files, 0, name)? else {
-        return push_plain(out, name, "class ", told);
-    };
-    let near = near_of(given, class);
-    let Some(file) = given.files.get(class) else {
-        return Ok(());
-    };
-    match place_of(alloc, file, line)? {
-        Some((method, at)) => {
-            let place = (Cursor { class, method }, at);
-            push_link_at(out, file, near, sources, folder, place, line, told)
-        }
-        None => push_plain(out, name, "class ", told),
-    }
 }
 
 // The kind of a report of a class file: the word behind the name of the file, which may have spaces.

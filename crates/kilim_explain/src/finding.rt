@@ -1,7 +1,7 @@
 //! Where in the code of a class something stands.
 
 use crate::code::{byte_at, length_at, pair_at};
-use crate::methods::code_of;
+use crate::methods::{code_of, is_written};
 use kilim_class_file::{ClassFile, MemberInfo};
 use kilim_class_pool::{Entry, Pool};
 use kilim_link_views::{class_text, text_of};
@@ -18,6 +18,8 @@ pub enum Wanted<'a> {
     Class(&'a [u8]),
     /// A member that an instruction names, as a report writes it.
     Member(&'a [u8]),
+    /// A field of the class of these units, by the name that a report writes.
+    Field(&'a [u16], &'a [u8]),
     /// A method with handlers.
     Handlers,
 }
@@ -111,6 +113,25 @@ fn entry_is_member(
     }
 }
 
+// Whether a member entry is the field of that name, of the class of these units.
+fn entry_is_field(
+    alloc: Global,
+    pool: &Pool,
+    index: u16,
+    class: &[u16],
+    field: &[u8],
+) -> Result<bool, NoMemory> {
+    match member_at(pool, index) {
+        Some((owner, name, _)) if owner == class => is_written(alloc, name, field),
+        _ => Ok(false),
+    }
+}
+
+// Whether an instruction has an index of a field behind it (JVMS 6.5, getstatic to putfield).
+fn has_field(opcode: u8) -> bool {
+    (178..=181).contains(&opcode)
+}
+
 // Whether an instruction has an index of a class or of a member behind it.
 fn has_index(opcode: u8) -> bool {
     (178 <= opcode && opcode <= 187) || (189..=193).contains(&opcode) || opcode == 197
@@ -139,6 +160,12 @@ fn is_here(
                 return Ok(false);
             }
             entry_is_member(alloc, pool, index, member)
+        }
+        Wanted::Field(class, field) => {
+            if !has_field(opcode) {
+                return Ok(false);
+            }
+            entry_is_field(alloc, pool, index, class, field)
         }
         Wanted::Handlers => Ok(false),
     }

@@ -1,19 +1,16 @@
 //! Reports for people: by the lines of the source, in terms of Java, with what to write instead.
 #![tactic(auto)]
 
-mod advice;
 mod code;
 mod explain;
 mod finding;
-mod java;
-mod left_out;
-mod linking;
+mod given;
+mod links;
 mod methods;
-mod missing;
 mod paths;
 mod placed;
-mod rules;
 mod sources;
 
-pub use explain::{Given, explained};
+pub use explain::explained;
+pub use given::Given;
 pub use sources::Sources;

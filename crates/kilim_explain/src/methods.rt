@@ -93,6 +93,14 @@ pub fn code_of(member: &MemberInfo) -> Option<&Code> {
     None
 }
 
+/// The bytes of a method's code.
+pub fn bytes_of(member: &MemberInfo) -> &[u8] {
+    match code_of(member) {
+        Some(code) => code.code.as_slice(),
+        None => &[],
+    }
+}
+
 // The bytes of the first attribute of a name that is kept as it is.
 fn raw_in_code<'a>(pool: &Pool, attributes: &'a [CodeAttribute], name: &[u8]) -> Option<&'a [u8]> {
     for attribute in attributes {

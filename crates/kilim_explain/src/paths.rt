@@ -2,20 +2,10 @@
 
 use crate::code::{Act, act_at};
 use crate::methods::{Tables, line_of};
+use kilim_explain_words::number;
 use kilim_pieces::{behind, word};
 use kilim_units::NoMemory;
 use std::alloc::Global;
-
-/// The number that a word writes; none where it writes none.
-pub fn number(word: &[u8]) -> Option<usize> {
-    match str::from_utf8(word) {
-        Ok(text) => match text.parse::<usize>() {
-            Ok(number) => Some(number),
-            Err(_) => None,
-        },
-        Err(_) => None,
-    }
-}
 
 /// The places of a path: the numbers of these words, up to one that is none.
 pub fn places_of(alloc: Global, words: &[u8]) -> Result<Vec<usize>, NoMemory> {

@@ -1,12 +1,11 @@
 //! A fault that has a place in code: of the rules of isolation and pausing, or of typing.
 
-use crate::advice::Advice;
 use crate::code::{Act, act_at};
-use crate::java::push_method;
 use crate::methods::{Tables, line_of, variable_of};
 use crate::paths::{given_at, lines_of};
 use crate::sources::Sources;
 use kilim_class_file::ClassFile;
+use kilim_explain_words::{Advice, push_class, push_method};
 use kilim_pieces::{Piece, push};
 use kilim_units::NoMemory;
 
@@ -63,9 +62,34 @@ pub fn push_head(
     push(out, &[Piece::Text("\n")])
 }
 
+/// What begins a block on a whole class: the source and the first line of its code; what is wrong; the class; and the line.
+pub fn push_class_head(
+    out: &mut Vec<u8>,
+    source: &Sources,
+    class: &[u8],
+    line: usize,
+    advice: Advice,
+) -> Result<(), NoMemory> {
+    let name = source.name();
+    push(
+        out,
+        &[
+            Piece::Plain(if name.is_empty() { class } else { name }),
+            Piece::Text(":"),
+            Piece::Number(line),
+            Piece::Text(": "),
+            Piece::Text(advice.what),
+            Piece::Text("\n    in class "),
+        ],
+    )?;
+    push_class(out, class)?;
+    push(out, &[Piece::Text("\n")])?;
+    push_source(out, source, line)
+}
+
 /// A line of the source, where it is known.
-pub fn push_source(out: &mut Vec<u8>, spot: Spot<'_>, line: usize) -> Result<(), NoMemory> {
-    let text = spot.source.line(line);
+fn push_source(out: &mut Vec<u8>, source: &Sources, line: usize) -> Result<(), NoMemory> {
+    let text = source.line(line);
     if text.is_empty() {
         return Ok(());
     }
@@ -84,7 +108,7 @@ pub fn push_source(out: &mut Vec<u8>, spot: Spot<'_>, line: usize) -> Result<(),
 /// The line of a place, where it is known.
 pub fn push_line_at(out: &mut Vec<u8>, spot: Spot<'_>, place: usize) -> Result<(), NoMemory> {
     match line_of(spot.tables, place) {
-        Some(line) => push_source(out, spot, line),
+        Some(line) => push_source(out, spot.source, line),
         None => Ok(()),
     }
 }
@@ -135,7 +159,7 @@ fn push_given(
                     Piece::Text("\n"),
                 ],
             )?;
-            push_source(out, spot, line)
+            push_source(out, spot.source, line)
         }
         None => push(
             out,

@@ -1,11 +1,8 @@
 //! Faults of linking, of class files, of weaving and of the main class, in terms of Java.
 
 use crate::advice::{Advice, advise};
-use crate::finding::Wanted;
 use crate::left_out::left_out;
 use crate::missing::{missing, no_member};
-use crate::paths::number;
-use kilim_pieces::between;
 
 fn twice(name: &[u8]) -> Advice {
     if name.starts_with(b"kilim/") || name.starts_with(b"java/") {
@@ -92,43 +89,6 @@ pub fn link_advice(kind: &[u8], name: &[u8]) -> Advice {
             "write the method, or make the class abstract",
         ),
         _ => bare(kind),
-    }
-}
-
-// The number of an instruction in the word of a part that is left out.
-fn opcode_in(name: &[u8]) -> Option<u8> {
-    if !name.starts_with(b"opcode-") {
-        return None;
-    }
-    match number(between(name, 7, name.len())) {
-        Some(number) => match u8::try_from(number) {
-            Ok(opcode) => Some(opcode),
-            Err(_) => None,
-        },
-        None => None,
-    }
-}
-
-/// Whether a class is one of what is thrown and caught: then a handler may name it, and no instruction.
-pub fn is_thrown(name: &[u8]) -> bool {
-    name.ends_with(b"Throwable") || name.ends_with(b"Exception") || name.ends_with(b"Error")
-}
-
-/// What is looked for in the code of the class, to say where it stands.
-pub fn wanted_by<'a>(kind: &[u8], name: &'a [u8]) -> Option<Wanted<'a>> {
-    match kind {
-        b"missing" => Some(Wanted::Class(name)),
-        b"no-member" => Some(Wanted::Member(name)),
-        b"left-out" => {
-            if name == b"handlers".as_slice() {
-                return Some(Wanted::Handlers);
-            }
-            match opcode_in(name) {
-                Some(opcode) => Some(Wanted::Opcode(opcode)),
-                None => None,
-            }
-        }
-        _ => None,
     }
 }
 
