@@ -6,7 +6,7 @@ use crate::words::Asked;
 use kilim_command::{accepted_line, no_main};
 use kilim_stages::woven_stage::{with_main, woven_program};
 use kilim_stages::{Refusal, accepted, coded_methods};
-use kilim_units::{NoMemory, Seq};
+use kilim_units::{NoMemory, Seq, unmet};
 use std::alloc::Global;
 
 /// What is to be written.
@@ -80,7 +80,8 @@ fn units_of(alloc: Global, text: &str) -> Result<Vec<u16>, NoMemory> {
 pub fn said_of(alloc: Global, asked: &Asked<'_>, files: &[Seq<u8>]) -> Result<Said, NoMemory> {
     let names = asked.files;
     if files.len() > 1000 || names.len() != files.len() {
-        return Err(NoMemory);
+        // unmet: the words name at most 1,000 files, and each of them was read
+        return Err(unmet());
     }
     if let Some(main) = asked.main {
         if let Some(said) = without_main(alloc, names, files, main)? {
