@@ -1,5 +1,5 @@
 -- Where a woven fiber comes to rest it has no frame.
-use Rattle.std.proofs.Common.{◌≡◌, ℕ, ℤ, pos, Bool, true, false, cond, not, List, [], ◌∷◌, Option, Some, None, Result, Ok, Err, refl, subst, ◌+◌}
+use Rattle.std.proofs.Common.{◌≡◌, ℕ, ℤ, pos, Bool, true, false, cond, not, List, [], ◌∷◌, Option, Some, None, Result, Ok, Err, refl, subst, ◌+◌, suc}
 use Rattle.std.specs.Prelude.{IfOk, nat_le, nat_lt, ◌&&◌}
 use Rattle.kilim_program.specs.declared.instr.Instr.{Instr}
 use Rattle.kilim_program.specs.declared.names.BoxName.{BoxName}
@@ -26,7 +26,7 @@ use Rattle.kilim_fiber_body.specs.Reach.{Reaches, named}
 use Rattle.kilim_fiber_body.specs.declared.body.Body.{Body}
 use Rattle.kilim_fiber_body.specs.declared.body.Came.{Came}
 use Rattle.kilim_fiber_body.specs.declared.body.Came.TheVariants as came
-use Rattle.kilim_fiber_laws.specs.woven_kin.Nexts.{Next, Goes, Rests, Ends, Stands, arg_next, asks_next, begins_next, begun_with, found_next, finish_next, get_next, message_next, native_next, next_by, next_in, next_of, opens_next, print_next, put_next, resumes_next, spent_or, start_next, stood, ticked, yield_next}
+use Rattle.kilim_fiber_laws.specs.woven_kin.Nexts.{Next, Goes, Rests, Ends, Stands, arg_next, asks_next, begins_next, begun_with, found_next, finish_next, get_next, message_next, native_next, next_by, next_in, next_of, opens_next, print_next, put_next, resumes_next, spent_or, start_next, stood, ticked, yield_next, put_wait_next, wait_next, bound_next}
 use Rattle.kilim_fiber_laws.specs.woven_kin.Standing.{Standing}
 use Rattle.kilim_fiber_spec.specs.Fibers.{Fib, Fiber_at, Saved, executes_on, first_receiver, is_pausing, is_rewinding, member_does, wfetch}
 use Rattle.kilim_fiber.specs.Records.{NoFrameIsLeft}
@@ -56,6 +56,18 @@ module _ (set : Setting) (W : Program) (t : ℕ) where
     message_none : (box : BoxName) (v : Value) → HasNone (message_next set.program z box v)
     message_none box (Ref n) = put_none box n (shape_of set.program z.heap n)
     message_none box _ = tt
+
+    put_wait_none : (box : BoxName) (n : ℕ) (o : Option (List Token)) → HasNone (put_wait_next z box n o)
+    put_wait_none box n None = tt
+    put_wait_none box n (Some shape) = tt
+
+    wait_none : (box : BoxName) (v : Value) → HasNone (wait_next set.program z box v)
+    wait_none box (Ref n) = put_wait_none box n (shape_of set.program z.heap n)
+    wait_none box _ = tt
+
+    bound_none : (box : BoxName) (i : ℤ) → HasNone (bound_next z box i)
+    bound_none box (pos (suc n)) = tt
+    bound_none box _ = tt
 
     start_none : (n : ℕ) (o : Option (List Token)) → HasNone (start_next z n o)
     start_none n None = tt
@@ -97,6 +109,8 @@ module _ (set : Setting) (W : Program) (t : ℕ) where
     native_none native.ArgCount [] = tt
     native_none native.Start (Ref n ∷ []) = start_none n (shape_of set.program z.heap n)
     native_none native.Put (Box box ∷ v ∷ []) = message_none box v
+    native_none native.PutWait (Box box ∷ v ∷ []) = wait_none box v
+    native_none native.Bound (Box box ∷ Int i ∷ []) = bound_none box i
     native_none native.Get (v ∷ Fiber ∷ []) = spent_none true z.done (get_next z v) (get_none v)
     native_none native.Print (v ∷ []) = print_none (printed v)
     native_none native.Yield (Fiber ∷ []) = yield_none (is_rewinding z.fiber)

@@ -1,7 +1,7 @@
 -- Where the machine is over right before an action, that is the next action of the thread of the course.
 use Rattle.std.proofs.Common.{◌≡◌, ℕ, ℤ, Bool, true, false, cond, List, [], ◌∷◌, Option, Some, None, refl, sym, ap, subst, ◌+◌, ◌<◌, inl, inr}
 use Rattle.std.proofs.lemmas.Bool.Decides.{leb_tells}
-use Rattle.std.specs.Prelude.{nat_le, nat_lt}
+use Rattle.std.specs.Prelude.{zero, suc, pos, negsuc, nat_le, nat_lt}
 use Rattle.std.proofs.lemmas.Option.{none-some, same_Some}
 use Rattle.kilim_program.specs.declared.names.BoxName.{BoxName}
 use Rattle.kilim_program.specs.declared.value.Value.{Value}
@@ -18,7 +18,7 @@ use Rattle.kilim_run_machine.specs.Natives as native
 use Rattle.kilim_run_state.specs.Shapes.{shape_of}
 use Rattle.kilim_run_model.proofs.Alone.{one_lone}
 use Rattle.kilim_run_model.specs.Course.{Course, IsLone, Quiet, next_action}
-use Rattle.kilim_run_model.specs.Lone.{Lone, Next, arg_at, arg_next, asks_next, begins_next, box_limit, finish_next, frames_next, message_next, native_next, next_by, next_move, on_heap, opens_next, over, print_next, printed, put_next, start_next, thread_next, went}
+use Rattle.kilim_run_model.specs.Lone.{Lone, Next, arg_at, arg_next, asks_next, begins_next, box_limit, finish_next, frames_next, message_next, native_next, next_by, next_move, on_heap, opens_next, over, print_next, printed, put_next, put_wait_next, bound_next, start_next, thread_next, wait_next, went}
 use Rattle.kilim_run_model.specs.Lone as thread
 use Rattle.kilim_run_model.proofs.Raised.{raised_has, raises_has, throws_has}
 use Rattle.kilim_run_machine.specs.Raising.{thrown}
@@ -46,6 +46,20 @@ module _ (set : Setting) (t : ℕ) where
     message_keeps box Null = raised_has (Keeps l.next) l cause.Null tt set.program (λ object f fs frames done boxes e. tt)
     message_keeps box _ = tt
 
+    put_wait_keeps : (box : BoxName) (n : ℕ) (o : Option (List Token)) → Keeps l.next (put_wait_next l box n o)
+    put_wait_keeps box n None = tt
+    put_wait_keeps box n (Some shape) = tt
+
+    wait_keeps : (box : BoxName) (v : Value) → Keeps l.next (wait_next set.program l box v)
+    wait_keeps box (Ref n) = put_wait_keeps box n (shape_of set.program l.heap n)
+    wait_keeps box Null = raised_has (Keeps l.next) l cause.Null tt set.program (λ object f fs frames done boxes e. tt)
+    wait_keeps box _ = tt
+
+    bound_keeps : (box : BoxName) (i : ℤ) → Keeps l.next (bound_next set.program l box i)
+    bound_keeps box (pos (suc n)) = tt
+    bound_keeps box (pos zero) = raised_has (Keeps l.next) l cause.Size tt set.program (λ object f fs frames done boxes e. tt)
+    bound_keeps box (negsuc n) = raised_has (Keeps l.next) l cause.Size tt set.program (λ object f fs frames done boxes e. tt)
+
     start_keeps : (n : ℕ) (o : Option (List Token)) → Keeps l.next (start_next l n o)
     start_keeps n None = tt
     start_keeps n (Some shape) = tt
@@ -64,6 +78,8 @@ module _ (set : Setting) (t : ℕ) where
     native_keeps native.ArgCount [] = tt
     native_keeps native.Start (Ref n ∷ []) = start_keeps n (shape_of set.program l.heap n)
     native_keeps native.Put (Box box ∷ v ∷ []) = message_keeps box v
+    native_keeps native.PutWait (Box box ∷ v ∷ []) = wait_keeps box v
+    native_keeps native.Bound (Box box ∷ Int i ∷ []) = bound_keeps box i
     native_keeps native.Get (Box box ∷ []) = refl
     native_keeps native.Getnb (Box box ∷ []) = refl
     native_keeps native.Print (v ∷ []) = print_keeps (printed v)

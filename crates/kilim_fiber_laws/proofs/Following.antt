@@ -31,7 +31,7 @@ use Rattle.kilim_fiber_laws.specs.woven_kin.history.History.{ComesTo, Follows, G
 use Rattle.kilim_fiber_laws.proofs.woven_kin.Trees.{came, left, sound}
 use Rattle.kilim_fiber_laws.specs.woven_kin.Alike.{Giving, Like, NextLike}
 use Rattle.kilim_fiber_laws.specs.woven_kin.Laws.{tree_came, tree_left}
-use Rattle.kilim_fiber_laws.specs.woven_kin.Nexts.{Next, Goes, Puts, Gets, Probes, Starts, Prints, Rests, Ends, Stands, next_of, with_result}
+use Rattle.kilim_fiber_laws.specs.woven_kin.Nexts.{Next, Goes, Puts, Gets, Probes, Starts, Prints, Rests, Ends, Stands, next_of, with_result, PutWaits, Bounds}
 use Rattle.kilim_fiber_laws.specs.woven_kin.Standing.{Standing}
 use Rattle.kilim_fiber_spec.specs.Acts.{Action}
 use Rattle.kilim_fiber_spec.specs.Acts as action
@@ -127,6 +127,19 @@ module _ (set : Setting) (W : Program) (marks : List (List Bool)) (served : CanS
         within (action.Puts box n shape) a g r.0 giving.is.done (is_left set t c (action.Puts box n shape) r.0.2 (before (action.Puts box n shape) a r.0)),
       )
 
+  put_wait_so : (box : BoxName) (n m : ℕ) (shape : List Token) (a g : Standing) → Giving p OfMessage n m shape a g → IsWholeAt p OfMessage a.heap n → Follows set W marks t from c.deeds done (PutWaits box n shape a) → Is (PutWaits box m shape g)
+  put_wait_so box n m shape a g giving object r =
+      let w = action_of (action.PutWaits box n shape) a r.0 in (
+        (n, w.0, w.1),
+        gives_away OfMessage n m shape (λ k. plain (act.Put box k shape)) a g giving object (course.tree_left p n w.0) (λ k. ap (λ (z : thread.Next). done_by set z (plain (act.Put box k shape))) w.1) r.1,
+        within (action.PutWaits box n shape) a g r.0 giving.is.done (is_left set t c (action.PutWaits box n shape) r.0.2 (before (action.PutWaits box n shape) a r.0)),
+      )
+
+  bound_so : (box : BoxName) (most : ℕ) (a g : Standing) → Like a g → Follows set W marks t from c.deeds done (Bounds box most a) → Is (Bounds box most g)
+  bound_so box most a g like r =
+      let w = action_of (action.Bounds box most) a r.0 in
+      ((w.0, w.1), behind (plain (act.Bound box most)) w.0 (ap (λ (z : thread.Next). done_by set z (plain (act.Bound box most))) w.1) a g r.1 like, within (action.Bounds box most) a g r.0 like.is.done (is_left set t c (action.Bounds box most) r.0.2 (before (action.Bounds box most) a r.0)))
+
   start_so : (n m : ℕ) (shape : List Token) (a g : Standing) → Giving p OfTask n m shape a g → IsWholeAt p OfTask a.heap n → Follows set W marks t from c.deeds done (Starts n shape a) → Is (Starts m shape g)
   start_so n m shape a g giving object r =
       let w = action_of (action.Starts n shape) a r.0 in (
@@ -163,6 +176,10 @@ module _ (set : Setting) (W : Program) (marks : List (List Bool)) (served : CanS
   leads (Puts box n shape a) (Puts other m again g) like object r =
       subst (λ (z : BoxName). Is (Puts z m again g)) like.0
       (subst (λ (z : List Token). Is (Puts box m z g)) like.1 (put_so box n m shape a g like.2 object r))
+  leads (PutWaits box n shape a) (PutWaits other m again g) like object r =
+      subst (λ (z : BoxName). Is (PutWaits z m again g)) like.0
+      (subst (λ (z : List Token). Is (PutWaits box m z g)) like.1 (put_wait_so box n m shape a g like.2 object r))
+  leads (Bounds box most a) (Bounds other least g) like object r = subst (λ (z : BoxName). Is (Bounds z least g)) like.0 (subst (λ (z : ℕ). Is (Bounds box z g)) like.1 (bound_so box most a g like.2 r))
   leads (Gets box paused a) (Gets other q g) like object r = subst (λ (z : BoxName). Is (Gets z q g)) like.0 (get_so box paused q a g like.1 like.2 r)
   leads (Probes box a) (Probes other g) like object r = subst (λ (z : BoxName). Is (Probes z g)) like.0 (probe_so box a g like.1 r)
   leads (Starts n shape a) (Starts m again g) like object r = subst (λ (z : List Token). Is (Starts m z g)) like.0 (start_so n m shape a g like.1 object r)

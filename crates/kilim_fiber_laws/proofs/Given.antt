@@ -1,5 +1,5 @@
 -- What a fiber puts or starts next is an object that is whole.
-use Rattle.std.proofs.Common.{◌≡◌, ℕ, ℤ, pos, Bool, true, false, cond, not, List, [], ◌∷◌, Option, Some, None, refl, subst, ◌+◌}
+use Rattle.std.proofs.Common.{◌≡◌, ℕ, ℤ, pos, Bool, true, false, cond, not, List, [], ◌∷◌, Option, Some, None, refl, subst, ◌+◌, suc}
 use Rattle.std.specs.Prelude.{nat_le, nat_lt, ◌&&◌}
 use Rattle.kilim_program.specs.declared.instr.Instr.{Instr}
 use Rattle.kilim_program.specs.declared.names.BoxName.{BoxName}
@@ -23,7 +23,7 @@ use Rattle.kilim_run_model.specs.Lone.{arg_at, box_limit, printed}
 use Rattle.kilim_run_model.specs.State.{Setting}
 use Rattle.kilim_fiber_laws.proofs.Reached.{GivesObjects, moves_give}
 use Rattle.kilim_fiber_laws.specs.woven_kin.history.History.{state_in}
-use Rattle.kilim_fiber_laws.specs.woven_kin.Nexts.{Next, Goes, Puts, Starts, Rests, Ends, Stands, arg_next, asks_next, begins_next, begun_with, found_next, finish_next, get_next, message_next, native_next, next_by, next_in, next_of, opens_next, print_next, put_next, resumes_next, spent_or, start_next, stood, ticked, yield_next}
+use Rattle.kilim_fiber_laws.specs.woven_kin.Nexts.{Next, Goes, Puts, Starts, Rests, Ends, Stands, arg_next, asks_next, begins_next, begun_with, found_next, finish_next, get_next, message_next, native_next, next_by, next_in, next_of, opens_next, print_next, put_next, resumes_next, spent_or, start_next, stood, ticked, yield_next, PutWaits, put_wait_next, wait_next, bound_next}
 use Rattle.kilim_fiber_laws.specs.woven_kin.Standing.{Standing}
 use Rattle.kilim_fiber_spec.specs.Acts.{World}
 use Rattle.kilim_fiber_spec.specs.Fibers.{Fib, Fiber_at, Saved, executes_on, first_receiver, is_pausing, is_rewinding, member_does, wfetch}
@@ -35,6 +35,7 @@ all_well p root h n g = λ y b. let o = g.below y b in record { object = o.objec
 module _ (set : Setting) (W : Program) (marks : List (List Bool)) (t : ℕ) where
   abbrev pub Whole : Next → Type 0
   Whole (Puts box n shape a) = IsWholeAt set.program OfMessage a.heap n
+  Whole (PutWaits box n shape a) = IsWholeAt set.program OfMessage a.heap n
   Whole (Starts n shape a) = IsWholeAt set.program OfTask a.heap n
   Whole x = Unit {0}
 
@@ -53,6 +54,18 @@ module _ (set : Setting) (W : Program) (marks : List (List Bool)) (t : ℕ) wher
     message_whole : (box : BoxName) (v : Value) → ((root : Root) (n : ℕ) → given (Some native.Put) (Box box ∷ v ∷ []) ≡ Some (root, n) → IsWholeAt set.program root z.heap n) → Whole (message_next set.program z box v)
     message_whole box (Ref n) g = put_whole box n (g OfMessage n refl) (shape_of set.program z.heap n)
     message_whole box _ g = tt
+
+    put_wait_whole : (box : BoxName) (n : ℕ) → IsWholeAt set.program OfMessage z.heap n → (o : Option (List Token)) → Whole (put_wait_next z box n o)
+    put_wait_whole box n g None = tt
+    put_wait_whole box n g (Some shape) = g
+
+    wait_whole : (box : BoxName) (v : Value) → ((root : Root) (n : ℕ) → given (Some native.PutWait) (Box box ∷ v ∷ []) ≡ Some (root, n) → IsWholeAt set.program root z.heap n) → Whole (wait_next set.program z box v)
+    wait_whole box (Ref n) g = put_wait_whole box n (g OfMessage n refl) (shape_of set.program z.heap n)
+    wait_whole box _ g = tt
+
+    bound_whole : (box : BoxName) (i : ℤ) → Whole (bound_next z box i)
+    bound_whole box (pos (suc n)) = tt
+    bound_whole box i = tt
 
     start_whole : (n : ℕ) → IsWholeAt set.program OfTask z.heap n → (o : Option (List Token)) → Whole (start_next z n o)
     start_whole n g None = tt
@@ -94,6 +107,8 @@ module _ (set : Setting) (W : Program) (marks : List (List Bool)) (t : ℕ) wher
     native_whole native.ArgCount [] g = tt
     native_whole native.Start (Ref n ∷ []) g = start_whole n (g OfTask n refl) (shape_of set.program z.heap n)
     native_whole native.Put (Box box ∷ v ∷ []) g = message_whole box v g
+    native_whole native.PutWait (Box box ∷ v ∷ []) g = wait_whole box v g
+    native_whole native.Bound (Box box ∷ Int i ∷ []) g = bound_whole box i
     native_whole native.Get (v ∷ Fiber ∷ []) g = spent_whole true z.done (get_next z v) (λ left. get_whole v)
     native_whole native.Print (v ∷ []) g = print_whole (printed v)
     native_whole native.Yield (Fiber ∷ []) g = yield_whole (is_rewinding z.fiber)

@@ -120,6 +120,7 @@ module _ (W : Program) (of : Names) where
 
   back_by : (root : Root) (x : ℕ) (o : Option Native) (args : List Value) → AreKin of args (map (renamed of) args) → given o (map (renamed of) args) ≡ Some (root, x) → Back o args root x
   back_by root x (Some native.Put) (Box box ∷ Ref n ∷ []) kin e = back_at (Some native.Put) (Box box ∷ Ref n ∷ []) root x n (OfMessage, number_of (of n)) refl kin.1.0 e
+  back_by root x (Some native.PutWait) (Box box ∷ Ref n ∷ []) kin e = back_at (Some native.PutWait) (Box box ∷ Ref n ∷ []) root x n (OfMessage, number_of (of n)) refl kin.1.0 e
   back_by root x (Some native.Start) (Ref n ∷ []) kin e = back_at (Some native.Start) (Ref n ∷ []) root x n (OfTask, number_of (of n)) refl kin.0 e
   back_by root x _ _ kin e = absurd (none-some (root, x) e)
 

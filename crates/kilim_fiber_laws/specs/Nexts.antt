@@ -19,7 +19,7 @@ use Rattle.kilim_run_model.specs.State.{Setting}
 use Rattle.kilim_run_trees.specs.Moved.{PutIn, TakenOut}
 use Rattle.kilim_fiber_laws.specs.Fibers.{Holds, IsFiberOf}
 use Rattle.kilim_fiber_laws.specs.woven_kin.history.History.{took}
-use Rattle.kilim_fiber_laws.specs.woven_kin.Nexts.{Next, Goes, Puts, Gets, Probes, Starts, Prints, Rests, Ends, Stands, with_result}
+use Rattle.kilim_fiber_laws.specs.woven_kin.Nexts.{Next, Goes, Puts, PutWaits, Bounds, Gets, Probes, Starts, Prints, Rests, Ends, Stands, with_result}
 use Rattle.kilim_fiber_laws.specs.woven_kin.Standing.{Standing}
 
 module _ (set : Setting) (W : Program) (marks : List (List Bool)) (t : ℕ) (c : Course) where
@@ -47,6 +47,9 @@ module _ (set : Setting) (W : Program) (marks : List (List Bool)) (t : ℕ) (c :
   NextIs last (Rests f) = Holds set W marks t c f
   NextIs last (Puts box m shape f) =
       ((n : ℕ) × (after : Lone) × (next_action set t last ≡ thread.Puts box n shape after)) × CanGiveAway OfMessage m shape (λ n. plain (act.Put box n shape)) f × (f.done ≤ set.limits.steps)
+  NextIs last (PutWaits box m shape f) =
+      ((n : ℕ) × (after : Lone) × (next_action set t last ≡ thread.PutWaits box n shape after)) × CanGiveAway OfMessage m shape (λ n. plain (act.Put box n shape)) f × (f.done ≤ set.limits.steps)
+  NextIs last (Bounds box most f) = ((after : Lone) × (next_action set t last ≡ thread.Bounds box most after)) × Behind (plain (act.Bound box most)) f × (f.done ≤ set.limits.steps)
   NextIs last (Gets box paused f) = ((after : Lone) × (next_action set t last ≡ thread.Gets box after)) × Holds set W marks t c paused × CanReceive box f × (f.done ≤ set.limits.steps)
   NextIs last (Probes box f) = ((after : Lone) × (next_action set t last ≡ thread.Probes box after)) × Behind (plain (act.Empty box)) (with_result (Some Null) f) × CanReceive box f × (f.done ≤ set.limits.steps)
   NextIs last (Starts m shape f) = ((n : ℕ) × (after : Lone) × (next_action set t last ≡ thread.Starts n shape after)) × CanGiveAway OfTask m shape (λ n. plain (act.Start n shape)) f × (f.done ≤ set.limits.steps)

@@ -1,5 +1,5 @@
 -- What a task does to others, read from a list of deeds; and what it has beside its frames.
-use Rattle.std.specs.Prelude.{ℕ, ◌+◌, nat_lt, nat_le, if◌then◌else◌, ℤ, List, [], ◌∷◌, Option, Some, None, length}
+use Rattle.std.specs.Prelude.{ℕ, suc, ◌+◌, nat_lt, nat_le, if◌then◌else◌, ℤ, pos, List, [], ◌∷◌, Option, Some, None, length}
 use Rattle.std.specs.FinMap.{insert}
 use Rattle.kilim_run_state.specs.declared.cause.EndCause.{EndCause}
 use Rattle.kilim_run_state.specs.declared.cause.EndCause.TheVariants as cause
@@ -12,7 +12,7 @@ use Rattle.kilim_run_state.specs.Machine.{Objects}
 use Rattle.kilim_run_machine.specs.Natives.{Native}
 use Rattle.kilim_run_machine.specs.Natives as native
 use Rattle.kilim_run_journal.specs.declared.entry.Act.{Act}
-use Rattle.kilim_run_journal.specs.declared.entry.Act.TheVariants.{Put, Take, Empty, Start, Print, End}
+use Rattle.kilim_run_journal.specs.declared.entry.Act.TheVariants.{Bound, Put, Take, Empty, Start, Print, End}
 use Rattle.kilim_run_model.specs.State.{Setting}
 use Rattle.kilim_run_model.specs.declared.deed.Deed.{Deed}
 use Rattle.kilim_run_state.specs.Shapes.{shape_of}
@@ -108,6 +108,25 @@ module _ {S : Type 0} (set : Setting) (w : World) (over : Over → S) where
     puts_value box (Ref n) = puts box n (shape_of set.program w.heap n)
     puts_value box v = over Lost
 
+    -- of a put that waits others decide the number alone
+    abbrev pub put_wait_by : BoxName → List Token → ℕ → Act → List Deed → S
+    put_wait_by box shape n (Put b k s) rest = go (gave n (Put box k shape) rest) None
+    put_wait_by box shape n act rest = over Astray
+
+    abbrev pub put_waits : BoxName → ℕ → Option (List Token) → S
+    put_waits box n None = ending cause.Large
+    put_waits box n (Some shape) = acting (PutWaits box n shape) (λ deed rest. put_wait_by box shape n deed.act rest)
+
+    abbrev pub waits_value : BoxName → Value → S
+    waits_value box Null = ending cause.Null
+    waits_value box (Ref n) = put_waits box n (shape_of set.program w.heap n)
+    waits_value box v = over Lost
+
+    -- a bound is at least 1
+    abbrev pub bounds : BoxName → ℤ → S
+    bounds box (pos (suc n)) = acting (Bounds box (suc n)) (λ deed rest. go (behind (Bound box (suc n)) rest) None)
+    bounds box n = ending cause.Size
+
     abbrev pub start_by : List Token → ℕ → Act → List Deed → S
     start_by shape n (Start t s) rest = go (gave n (Start t shape) rest) None
     start_by shape n (End c) rest = last cause.Tasks rest
@@ -149,6 +168,8 @@ module _ {S : Type 0} (set : Setting) (w : World) (over : Over → S) where
     native_does native.Execute (Ref n ∷ []) = go (counted w) None
     native_does native.Start (Ref n ∷ []) = starts n (shape_of set.program w.heap n)
     native_does native.Put (Box box ∷ message ∷ []) = puts_value box message
+    native_does native.PutWait (Box box ∷ message ∷ []) = waits_value box message
+    native_does native.Bound (Box box ∷ Int n ∷ []) = bounds box n
     native_does native.Get (Box box ∷ []) = takes box
     native_does native.Getnb (Box box ∷ []) = probes box
     native_does native.Print (v ∷ []) = prints (printed v)

@@ -1,6 +1,6 @@
 -- A thread that stands goes on standing: its moves, and what others decide.
 use Rattle.std.proofs.Common.{◌≡◌, inl, inr, ℕ, ◌+◌, ◌≤◌, ℤ, Bool, true, false, true≢false, cond, List, [], ◌∷◌, Option, Some, None, refl, sym, ap, subst, ◌∙◌, arith}
-use Rattle.std.specs.Prelude.{◌&&◌, nat_le, nat_lt}
+use Rattle.std.specs.Prelude.{◌&&◌, zero, suc, pos, negsuc, nat_le, nat_lt}
 use Rattle.std.specs.FinMap.{get}
 use Rattle.std.proofs.lemmas.Bool.{and_parts}
 use Rattle.kilim_program.specs.declared.class.Method.{Method}
@@ -33,7 +33,7 @@ use Rattle.kilim_run_journal.specs.declared.entry.Act.{Act}
 use Rattle.kilim_run_journal.specs.declared.entry.Act.TheVariants.{Put, Take, Empty, Start, Print, End, Bound}
 use Rattle.kilim_run_model.proofs.Raised.{raised_over, raises_over, throws_over}
 use Rattle.kilim_run_model.specs.State.{Setting, Thread, Alive, Ended, begun_on, is_fit}
-use Rattle.kilim_run_model.specs.Lone.{Lone, Next, Goes, Puts, PutWaits, Bounds, Gets, Probes, Starts, Prints, Ends, Stands, arg_at, arg_next, asks_next, begins_next, box_limit, ended, finish_next, frames_next, message_next, native_next, next_by, next_move, on_heap, opens_next, over, print_next, printed, pushed, put_next, start_next, thread_next, went}
+use Rattle.kilim_run_model.specs.Lone.{Lone, Next, Goes, Puts, PutWaits, Bounds, Gets, Probes, Starts, Prints, Ends, Stands, arg_at, arg_next, asks_next, begins_next, box_limit, ended, finish_next, frames_next, message_next, native_next, next_by, next_move, on_heap, opens_next, over, print_next, printed, pushed, put_next, put_wait_next, bound_next, start_next, thread_next, wait_next, went}
 use Rattle.kilim_run_model.specs.Course.{Done, done_by, fills_deed, probes_deed, puts_deed, received, starts_deed, takes_deed, tree_came, tree_left}
 use Rattle.kilim_run_model.specs.declared.deed.Deed.{Deed}
 use Rattle.kilim_type_spec.specs.Step.{vtype}
@@ -56,7 +56,7 @@ use Rattle.kilim_isolation_laws.proofs.heaps.Heaps.{taken_trees_come}
 use Rattle.kilim_isolation_laws.proofs.names.Given.{given_trees_leave}
 use Rattle.kilim_isolation_laws.specs.Standing.{Standing, ThreadStands}
 use Rattle.kilim_isolation_laws.proofs.Grounds.{is_verified, whole_at}
-use Rattle.kilim_isolation_laws.proofs.Natives.{below_tree, message_kind, n, not_owned, put_is, put_parameters, start_is, start_parameters, task_kind}
+use Rattle.kilim_isolation_laws.proofs.Natives.{below_tree, message_kind, n, not_owned, put_is, put_parameters, start_is, start_parameters, task_kind, wait_is}
 
 some_same : {A : Type 0} (o : Option A) (x y : A) → o ≡ Some x → o ≡ Some y → x ≡ y
 some_same o x y e f = cc
@@ -177,13 +177,11 @@ module _ (set : Setting) (wanted : Wanted) (listed : Listed) (sound : IsSound se
       quality_free : (c : ClassId) → class_kind p c ≡ kind.Tree → quality p (class_type c.0) Free ≡ Some Free
       quality_free c e = ap (λ (k : Kind). cond (is_tree_kind k) (Some Free) None) e
 
-      put_stands : (box : BoxName) (root : ℕ) → native_of p id ≡ Some native.Put → args ≡ Box box ∷ Ref root ∷ [] → (o : Option (List Token)) → shape_of p h root ≡ o → NextStands (put_next behind box root o)
-      put_stands box root known own None e = tt
-      put_stands box root known own (Some shape) e = leaves native.Put known refl root shape (class_id (number + 2)) (message_kind p is.keeps is.form) typed gives_it e
+      -- a message that is put leaves
+      message_leaves : (k : Native) → native_of p id ≡ Some k → gives number k ≡ None → Rattle.kilim_isolation_laws.proofs.Natives.Puts number fits.callee → (box : BoxName) (root : ℕ) → args ≡ Box box ∷ Ref root ∷ [] → (shape : List Token) → shape_of p h root ≡ Some shape →
+          Stood (tree_left p root behind)
+      message_leaves k known none puts box root own shape e = leaves k known none root shape (class_id (number + 2)) (message_kind p is.keeps is.form) typed gives_it e
         where
-          puts : Rattle.kilim_isolation_laws.proofs.Natives.Puts number fits.callee
-          puts = put_is p is.keeps is.form id fits.callee fits.is known
-
           types : native_types fits.callee ≡ Rattle.kilim_type_spec.specs.Step.class_vtype (class_id (number + 5)) ∷ vtype message ∷ []
           types =
               ap (λ (z : Bool). Rattle.kilim_type_sound.specs.Sound.native_types (record fits.callee { is_static = z })) puts.0
@@ -199,6 +197,24 @@ module _ (set : Setting) (wanted : Wanted) (listed : Listed) (sound : IsSound se
           gives_it = subst (λ (qs : List Parameter). Gives p qs args root) (sym (put_parameters p is.keeps is.form fits.callee puts))
               (subst (λ (vs : List Value). Gives p (record { ty = class_type (number + 5); qualifier = Safe } ∷ record { ty = message; qualifier = Free } ∷ []) vs root) (sym own)
               (inr (not_owned (is_tree_kind (kind_of p (class_type (number + 5)))), inl (quality_free (class_id (number + 2)) (message_kind p is.keeps is.form), refl, tt))))
+
+      put_stands : (box : BoxName) (root : ℕ) → native_of p id ≡ Some native.Put → args ≡ Box box ∷ Ref root ∷ [] → (o : Option (List Token)) → shape_of p h root ≡ o → NextStands (put_next behind box root o)
+      put_stands box root known own None e = tt
+      put_stands box root known own (Some shape) e = message_leaves native.Put known refl (put_is p is.keeps is.form id fits.callee fits.is known) box root own shape e
+
+      put_wait_stands : (box : BoxName) (root : ℕ) → native_of p id ≡ Some native.PutWait → args ≡ Box box ∷ Ref root ∷ [] → (o : Option (List Token)) → shape_of p h root ≡ o → NextStands (put_wait_next behind box root o)
+      put_wait_stands box root known own None e = tt
+      put_wait_stands box root known own (Some shape) e = message_leaves native.PutWait known refl (wait_is p is.keeps is.form id fits.callee fits.is known) box root own shape e
+
+      wait_stands : (box : BoxName) (v : Value) → native_of p id ≡ Some native.PutWait → args ≡ Box box ∷ v ∷ [] → NextStands (wait_next p behind box v)
+      wait_stands box Null known own = subst NextStands (sym (raised_over p is.keeps.handlers behind cause.Null)) tt
+      wait_stands box (Ref root) known own = put_wait_stands box root known own (shape_of p h root) refl
+      wait_stands box _ known own = tt
+
+      bound_stands : (box : BoxName) (i : ℤ) → Stood behind → NextStands (bound_next p behind box i)
+      bound_stands box (pos (suc i)) e = e
+      bound_stands box (pos zero) e = subst NextStands (sym (raised_over p is.keeps.handlers behind cause.Size)) tt
+      bound_stands box (negsuc i) e = subst NextStands (sym (raised_over p is.keeps.handlers behind cause.Size)) tt
 
       message_stands : (box : BoxName) (v : Value) → native_of p id ≡ Some native.Put → args ≡ Box box ∷ v ∷ [] → NextStands (message_next p behind box v)
       message_stands box Null known own = subst NextStands (sym (raised_over p is.keeps.handlers behind cause.Null)) tt
@@ -239,6 +255,8 @@ module _ (set : Setting) (wanted : Wanted) (listed : Listed) (sound : IsSound se
       native_stands native.Execute (Ref q ∷ []) known e = λ more on. without_result native.Execute known refl
       native_stands native.Start (Ref q ∷ []) known e = start_stands q known e (shape_of p h q) refl
       native_stands native.Put (Box box ∷ v ∷ []) known e = message_stands box v known e
+      native_stands native.PutWait (Box box ∷ v ∷ []) known e = wait_stands box v known e
+      native_stands native.Bound (Box box ∷ Int i ∷ []) known e = bound_stands box i (without_result native.Bound known refl)
       native_stands native.Get (Box box ∷ []) known e = receives native.Get known refl
       native_stands native.Getnb (Box box ∷ []) known e = (receives native.Getnb known refl, with_null native.Getnb known refl)
       native_stands native.Print (v ∷ []) known e = print_stands (printed v) (without_result native.Print known refl)

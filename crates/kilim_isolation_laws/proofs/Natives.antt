@@ -1,6 +1,6 @@
 -- What the built-in methods are that give a tree away, and `execute`.
 use Rattle.std.proofs.Common.{◌≡◌, ℕ, zero, suc, ◌+◌, Bool, true, false, cond, List, [], ◌∷◌, length, Option, Some, None, refl, sym, ap, ◌∙◌}
-use Rattle.std.specs.Prelude.{◌&&◌, ◌||◌, codes}
+use Rattle.std.specs.Prelude.{◌&&◌, ◌||◌, codes, not}
 use Rattle.std.specs.List.{AllByRecursion, list_any}
 use Rattle.std.specs.Str.{bytes_eq}
 use Rattle.std.proofs.lemmas.Bool.{or_left}
@@ -21,10 +21,11 @@ use Rattle.kilim_program.specs.BuiltIn.{built_in_methods_in, class_id, class_typ
 use Rattle.kilim_program.specs.Fits.{fits_type, is_named}
 use Rattle.kilim_program.specs.Keeps.{Keeps}
 use Rattle.kilim_program.specs.Kinds.{class_kind, is_message, is_value_class}
-use Rattle.kilim_program.specs.Names.{class_at, class_name, is_named_task, is_task, method_at, ◌>>=◌}
+use Rattle.kilim_program.specs.Names.{class_at, class_name, is_named_task, is_task, method_at, ◌>>=◌, is_empty}
 use Rattle.kilim_program.specs.Same.{is_constructor}
-use Rattle.kilim_run_machine.specs.Natives.{Native, native_method, native_named, native_of, natives}
+use Rattle.kilim_run_machine.specs.Natives.{Native, native_method, native_named, native_of, natives, native_in, is_of, is_built_in_constructor}
 use Rattle.kilim_run_machine.specs.Natives as native
+use Rattle.kilim_run_machine.proofs.Named.{native_is_named}
 use Rattle.kilim_lemmas.proofs.Texts.{same_text}
 use Rattle.kilim_isolation_graph.specs.Entry.{declared_parameters, parameters_of}
 use Rattle.kilim_isolation_rules.specs.Calls.{is_owned}
@@ -34,9 +35,6 @@ use Rattle.kilim_isolation_laws.proofs.typed_threads.Booting.{line_begins}
 use Rattle.kilim_isolation_laws.specs.graph_rows.Holds.{Sort, Tree, Trees, object_sort, sort_by}
 use Rattle.kilim_isolation_laws.proofs.sorts.KindsOfClasses.{ClassFlow}
 use Rattle.kilim_isolation_laws.proofs.sorts.Sorted.{classes_flow, message_is_tree}
-
-no_native : (k : Native) → None ≡ Some k → ⊥
-no_native k e = cc
 
 -- ---- by their names
 
@@ -55,6 +53,17 @@ no e = absurd (cc)
 puts_so : (n : ℕ) → AllByRecursion (NamedSo (codes "put") (Puts n)) (built_in_methods_in Plain n)
 puts_so n = (no, (no, (no, (no, (no, (no, (no, (no, ((λ e. (refl, refl, refl, refl, refl)), (no, (no, (no, (no, (no, (no, (no, (no, (no, tt))))))))))))))))))
 
+-- no built-in method is called so yet
+waits_so : (n : ℕ) → AllByRecursion (NamedSo (codes "putw") (Puts n)) (built_in_methods_in Plain n)
+waits_so n = (no, (no, (no, (no, (no, (no, (no, (no, (no, (no, (no, (no, (no, (no, (no, (no, (no, (no, tt))))))))))))))))))
+
+no_waits : (n : ℕ) → AllByRecursion (NamedSo (codes "putw") (λ m. ⊥)) (built_in_methods_in Plain n)
+no_waits n = (no, (no, (no, (no, (no, (no, (no, (no, (no, (no, (no, (no, (no, (no, (no, (no, (no, (no, tt))))))))))))))))))
+
+-- a constructor has no parameters
+no_arguments : (n : ℕ) → AllByRecursion (NamedSo (codes "<init>") (λ m. is_empty m.params ≡ true)) (built_in_methods_in Plain n)
+no_arguments n = ((λ e. refl), (no, (no, (no, ((λ e. refl), (no, (no, ((λ e. refl), (no, (no, (no, (no, (no, (no, (no, (no, (no, (no, tt))))))))))))))))))
+
 starts_so : (n : ℕ) → AllByRecursion (NamedSo (codes "start") (Begins n Free)) (built_in_methods_in Plain n)
 starts_so n = (no, (no, (no, (no, (no, ((λ e. (refl, refl, refl, refl, refl)), (no, (no, (no, (no, (no, (no, (no, (no, (no, (no, (no, (no, tt))))))))))))))))))
 
@@ -67,6 +76,14 @@ abbrev is_put : Native → Bool
 is_put native.Put = true
 is_put k = false
 
+abbrev is_wait : Native → Bool
+is_wait native.PutWait = true
+is_wait k = false
+
+abbrev is_bound : Native → Bool
+is_bound native.Bound = true
+is_bound k = false
+
 abbrev is_start : Native → Bool
 is_start native.Start = true
 is_start k = false
@@ -75,10 +92,16 @@ abbrev Called : (Native → Bool) → List ℕ → List ℕ × List ℕ × Nativ
 Called test text e = test e.2 ≡ true → e.1 ≡ text
 
 all_put : AllByRecursion (Called is_put (codes "put")) natives
-all_put = (no, (no, ((λ e. refl), (no, (no, (no, (no, (no, (no, (no, (no, (no, (no, (no, (no, (no, (no, (no, (no, (no, tt))))))))))))))))))))
+all_put = (no, (no, ((λ e. refl), (no, (no, (no, (no, (no, (no, (no, (no, (no, (no, (no, (no, (no, (no, (no, (no, (no, (no, (no, tt))))))))))))))))))))))
+
+all_wait : AllByRecursion (Called is_wait (codes "putw")) natives
+all_wait = (no, (no, (no, ((λ e. refl), (no, (no, (no, (no, (no, (no, (no, (no, (no, (no, (no, (no, (no, (no, (no, (no, (no, (no, tt))))))))))))))))))))))
+
+all_bound : AllByRecursion (Called is_bound (codes "<init>")) natives
+all_bound = (no, (no, (no, (no, ((λ e. refl), (no, (no, (no, (no, (no, (no, (no, (no, (no, (no, (no, (no, (no, (no, (no, (no, (no, tt))))))))))))))))))))))
 
 all_start : AllByRecursion (Called is_start (codes "start")) natives
-all_start = ((λ e. refl), (no, (no, (no, (no, (no, (no, (no, (no, (no, (no, (no, (no, (no, (no, (no, (no, (no, (no, (no, tt))))))))))))))))))))
+all_start = ((λ e. refl), (no, (no, (no, (no, (no, (no, (no, (no, (no, (no, (no, (no, (no, (no, (no, (no, (no, (no, (no, (no, (no, tt))))))))))))))))))))))
 
 called_so : (test : Native → Bool) (text : List ℕ) (ns : List (List ℕ × List ℕ × Native)) → AllByRecursion (Called test text) ns → (class name : List ℕ) (k : Native) → native_named ns class name ≡ Some k → test k ≡ true → bytes_eq name text ≡ true
 called_so test text [] all class name k e is = absurd (cc)
@@ -88,6 +111,19 @@ called_so test text (x ∷ ns) all class name k e is = by (bytes_eq class x.0) (
     by true true f g e again = ap (bytes_eq name) (sym (all.0 (ap test (let s : x.2 ≡ k = cc in s) ∙ is))) ∙ g
     by true false f g e again = again e
     by false b f g e again = again e
+
+-- a constructor without parameters isn't handed out
+not_handed_out : (class : List ℕ) (m : Method) (k : Native) → m.built_in ≡ true → bytes_eq m.name (codes "<init>") ≡ true → is_empty m.params ≡ true → native_in class m ≡ Some k → ⊥
+not_handed_out class m k own name none e =
+    let is : is_built_in_constructor m ≡ true = ap (λ (z : Bool). z && (bytes_eq m.name (codes "<init>") && is_empty m.params)) own ∙ (ap (λ (z : Bool). z && is_empty m.params) name ∙ none) in
+    never (ap (λ (z : Bool). cond z (native_named natives class m.name) None) (ap (λ (z : Bool). m.built_in && not (z || (is_of class (codes "java/lang/String") m || (is_of class (codes "kilim/Sys") m && bytes_eq m.name (codes "take"))))) is ∙ at_false m.built_in))
+  where
+    at_false : (z : Bool) → (z && false) ≡ false
+    at_false true = refl
+    at_false false = refl
+
+    never : native_in class m ≡ None → ⊥
+    never o = cc
 
 message_at : (a b : ℕ) → NamedAt Plain a b 2 (codes "kilim/Message")
 message_at a b = record { class = _; at = refl; is = refl }
@@ -105,14 +141,25 @@ module _ (p : Program) (keeps : Keeps p) (form : p.form ≡ Plain) where
   n = first p keeps form
 
   name_of : (test : Native → Bool) (text : List ℕ) → AllByRecursion (Called test text) natives → (id : MethodId) (m : Method) (k : Native) → method_at p id ≡ Some m → native_of p id ≡ Some k → test k ≡ true → (m.built_in ≡ true) × (bytes_eq m.name text ≡ true)
-  name_of test text all id m k there known is = by m.built_in refl (sym (ap (λ (o : Option Method). o >>= native_method p) there) ∙ known)
-    where
-      by : (z : Bool) → m.built_in ≡ z → cond z (native_named natives (class_name p m.owner) m.name) None ≡ Some k → (m.built_in ≡ true) × (bytes_eq m.name text ≡ true)
-      by true b e = (b, called_so test text natives all (class_name p m.owner) m.name k e is)
-      by false b e = absurd (no_native k e)
+  name_of test text all id m k there known is =
+      let w = native_is_named (class_name p m.owner) m k (sym (ap (λ (o : Option Method). o >>= native_method p) there) ∙ known) in
+      (w.0, called_so test text natives all (class_name p m.owner) m.name k w.1 is)
 
   pub put_is : (id : MethodId) (m : Method) → method_at p id ≡ Some m → native_of p id ≡ Some native.Put → Puts n m
   put_is id m there known = let w = name_of is_put (codes "put") all_put id m native.Put there known refl in built_in_one p keeps form (NamedSo (codes "put") (Puts n)) (puts_so n) id m there w.0 w.1
+
+  pub wait_is : (id : MethodId) (m : Method) → method_at p id ≡ Some m → native_of p id ≡ Some native.PutWait → Puts n m
+  wait_is id m there known = let w = name_of is_wait (codes "putw") all_wait id m native.PutWait there known refl in built_in_one p keeps form (NamedSo (codes "putw") (Puts n)) (waits_so n) id m there w.0 w.1
+
+  -- no program has one yet
+  pub no_wait : (id : MethodId) (m : Method) → method_at p id ≡ Some m → native_of p id ≡ Some native.PutWait → ⊥
+  no_wait id m there known = let w = name_of is_wait (codes "putw") all_wait id m native.PutWait there known refl in built_in_one p keeps form (NamedSo (codes "putw") (λ m. ⊥)) (no_waits n) id m there w.0 w.1
+
+  pub no_bound : (id : MethodId) (m : Method) → method_at p id ≡ Some m → native_of p id ≡ Some native.Bound → ⊥
+  no_bound id m there known =
+      let w = name_of is_bound (codes "<init>") all_bound id m native.Bound there known refl in
+      not_handed_out (class_name p m.owner) m native.Bound w.0 w.1 (built_in_one p keeps form (NamedSo (codes "<init>") (λ m. is_empty m.params ≡ true)) (no_arguments n) id m there w.0 w.1)
+          (sym (ap (λ (o : Option Method). o >>= native_method p) there) ∙ known)
 
   pub start_is : (id : MethodId) (m : Method) → method_at p id ≡ Some m → native_of p id ≡ Some native.Start → Begins n Free m
   start_is id m there known = let w = name_of is_start (codes "start") all_start id m native.Start there known refl in built_in_one p keeps form (NamedSo (codes "start") (Begins n Free)) (starts_so n) id m there w.0 w.1

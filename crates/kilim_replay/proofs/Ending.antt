@@ -11,6 +11,7 @@ use Rattle.kilim_run_model.specs.Runs.{AtRest, if_waits, is_at_rest, wait_entry,
 use Rattle.kilim_run_model.specs.declared.waits.Waits.TheVariants as wait
 use Rattle.kilim_replay_laws.specs.Verdicts.{all_settled, first_going}
 use Rattle.kilim_replay_laws.proofs.One.{ended_still, still_before}
+use Rattle.kilim_isolation_laws.proofs.NotYet.{NeverPuts, never_puts}
 use Rattle.kilim_replay_laws.proofs.Settling.{RestsBefore, all_rest, begins, goes_first, rests_on, waits_on}
 use Rattle.kilim_replay.specs.Machine.{IsAt}
 use Rattle.kilim_replay.specs.Rest.{HasSettled, settled_of}
@@ -20,14 +21,18 @@ use Rattle.kilim_replay.proofs.Viewing.{map_length}
 
 -- the tasks before a number rest, and their waits are known
 pub record Rests (set : Setting) (s : State) (k : ℕ) (m : Machine) (waits : List Entry) : Type 0 where
+  -- no program has a put that waits yet
+  pub never : NeverPuts set
   pub now : State
   pub at : IsAt set m now
-  pub before : RestsBefore set s k now
+  pub before : RestsBefore set never s k now
   pub known : waits ≡ waits_from set now 0 (take k now.threads)
   pub many : length now.threads ≡ length s.threads
 
 pub first_rests : (set : Setting) (s : State) (m : Machine) → IsAt set m s → Rests set s 0 m []
-first_rests set s m at = record { now = s; at = at; before = begins set s; known = refl; many = refl }
+first_rests set s m at =
+    let never = never_puts set at.typed.verified.keeps at.typed.verified.form in
+    record { never = never; now = s; at = at; before = begins set never s; known = refl; many = refl }
 
 threads_are : (set : Setting) (m : Machine) (s : State) → IsAt set m s → length s.threads ≡ length m.tasks.items
 threads_are set m s at = ap length at.views.threads ∙ map_length m.tasks.items
@@ -73,12 +78,13 @@ module _ (set : Setting) (s : State) (k : ℕ) (m : Machine) (waits : List Entry
       let w = h.1 in
       let stands : waits_at set next k w.thread ≡ Some box = ap (if_waits next) w.stands ∙ empty_waits next box (next.mailboxes box).queue refl w.empty in
       record {
+        never = r.never;
         now = next;
         at = h.0;
-        before = rests_on set s k r.now r.before was.0 was.1 w.thread w.there (waits_rest set next k w.thread box stands);
+        before = rests_on set r.never s k r.now r.before was.0 was.1 w.thread w.there (waits_rest set next k w.thread box stands);
         known =
             ap (λ (es : List Entry). es ++ record { task = k; act = Wait box } ∷ []) r.known
-            ∙ sym (waits_on set s k r.now r.before was.0 was.1 w.thread w.there ∙ ap (λ (o : Option BoxName). waits_from set r.now 0 (take k r.now.threads) ++ wait_entry k o) stands);
+            ∙ sym (waits_on set r.never s k r.now r.before was.0 was.1 w.thread w.there ∙ ap (λ (o : Option BoxName). waits_from set r.now 0 (take k r.now.threads) ++ wait_entry k o) stands);
         many = many_next (threads_are set after next h.0 ∙ same);
       }
 
@@ -90,23 +96,24 @@ module _ (set : Setting) (s : State) (k : ℕ) (m : Machine) (waits : List Entry
       let there : slice_get next.threads k ≡ Some (Ended h.1.0) = ap (λ (x : State). slice_get x.threads k) still ∙ h.1.1 in
       let at : IsAt set after next = subst (IsAt set after) (sym still) h.0 in
       record {
+        never = r.never;
         now = next;
         at = at;
-        before = rests_on set s k r.now r.before was.0 was.1 (Ended h.1.0) there refl;
+        before = rests_on set r.never s k r.now r.before was.0 was.1 (Ended h.1.0) there refl;
         known =
             r.known
-            ∙ sym (waits_on set s k r.now r.before was.0 was.1 (Ended h.1.0) there
+            ∙ sym (waits_on set r.never s k r.now r.before was.0 was.1 (Ended h.1.0) there
             ∙ (ap (λ (o : Option BoxName). waits_from set r.now 0 (take k r.now.threads) ++ wait_entry k o) (ended_none set next k h.1.0) ∙ none_more (waits_from set r.now 0 (take k r.now.threads))));
         many = many_next (threads_are set after next at ∙ same);
       }
 
   -- it goes on
   pub goes_more : HasSettled set r.now k after settled.Goes → first_going set (all_settled set s) 0 (all_settled set s).threads ≡ Some k
-  goes_more h = goes_first set s k r.now r.before was.0 was.1 h.thread h.there h.goes
+  goes_more h = goes_first set r.never s k r.now r.before was.0 was.1 h.thread h.there h.goes
 
 -- all rest
 pub rest_of : (set : Setting) (s : State) (k : ℕ) (m : Machine) (waits : List Entry) → Rests set s k m waits → length m.tasks.items ≤ k → AtRest set s waits
 rest_of set s k m waits r le =
     let a = threads_are set m r.now r.at in
     let b = r.many in
-    all_rest set s k r.now r.before (omega (arith, le, a, b)) (omega (arith, le, a)) waits r.known
+    all_rest set r.never s k r.now r.before (omega (arith, le, a, b)) (omega (arith, le, a)) waits r.known

@@ -1,6 +1,6 @@
 -- A thread's moves without an action are those of the state.
 use Rattle.std.proofs.Common.{◌≡◌, ℕ, zero, suc, ◌+◌, ℤ, Bool, true, false, cond, List, [], ◌∷◌, Option, Some, None, ◌⊎◌, inl, inr, refl, sym, ap, subst, ◌∙◌}
-use Rattle.std.specs.Prelude.{◌==◌, nat_le, nat_lt, slice_get, slice_set}
+use Rattle.std.specs.Prelude.{◌==◌, pos, nat_le, nat_lt, slice_get, slice_set}
 use Rattle.kilim_lemmas.proofs.Lists.{set_there}
 use Rattle.kilim_program.specs.Program.{Program}
 use Rattle.kilim_program.specs.declared.names.BoxName.{BoxName}
@@ -18,7 +18,7 @@ use Rattle.kilim_run_machine.specs.Natives.{Native, native_of}
 use Rattle.kilim_run_machine.specs.Natives as native
 use Rattle.kilim_run_state.specs.Shapes.{shape_of}
 use Rattle.kilim_run_model.specs.State.{Setting, Thread, Alive, Ended, State, begun_on}
-use Rattle.kilim_run_model.specs.Lone.{Lone, Next, Goes, arg_at, arg_next, asks_next, begins_next, box_limit, finish_next, frames_next, message_next, native_next, next_by, next_move, on_heap, over, print_next, printed, put_next, raised, start_next, thread_next, went}
+use Rattle.kilim_run_model.specs.Lone.{Lone, Next, Goes, arg_at, arg_next, asks_next, begins_next, box_limit, finish_next, frames_next, message_next, native_next, next_by, next_move, on_heap, over, print_next, printed, put_next, put_wait_next, bound_next, raised, start_next, thread_next, wait_next, went}
 use Rattle.kilim_run_model.specs.Turn.{Moved, quiet, lone_of, with_lone, moved_by, thread_moved, moved}
 use Rattle.kilim_run_model.specs.Runs.{acted_or, acted_within, unless_acted, before_action}
 use Rattle.kilim_run_model.specs.Course.{Quiet, Stays, Moves}
@@ -54,6 +54,19 @@ message_kept p after box Null = raised_kept p after cause.Null
 message_kept p after box (Ref root) = put_kept after box root (shape_of p after.heap root) after.kept
 message_kept p after box v = tt
 
+put_wait_kept : (after : Lone) (box : BoxName) (root : ℕ) (o : Option (List Token)) (k : Option ℕ) → KeptSame k (put_wait_next after box root o)
+put_wait_kept after box root None k = tt
+put_wait_kept after box root (Some shape) k = tt
+
+wait_kept : (p : Program) (after : Lone) (box : BoxName) (v : Value) → KeptSame after.kept (wait_next p after box v)
+wait_kept p after box Null = raised_kept p after cause.Null
+wait_kept p after box (Ref root) = put_wait_kept after box root (shape_of p after.heap root) after.kept
+wait_kept p after box v = tt
+
+bound_kept : (p : Program) (after : Lone) (box : BoxName) (i : ℤ) → KeptSame after.kept (bound_next p after box i)
+bound_kept p after box (pos (suc i)) = tt
+bound_kept p after box i = raised_kept p after cause.Size
+
 print_kept : (after : Lone) (o : Option Token) (k : Option ℕ) → KeptSame k (print_next after o)
 print_kept after None k = tt
 print_kept after (Some token) k = tt
@@ -66,6 +79,8 @@ native_kept : (set : Setting) (after : Lone) (n : Native) (args : List Value) �
 native_kept set after native.Execute (Ref r ∷ []) = inl refl
 native_kept set after native.Start (Ref r ∷ []) = start_kept after r (shape_of set.program after.heap r) after.kept
 native_kept set after native.Put (Box box ∷ message ∷ []) = message_kept set.program after box message
+native_kept set after native.PutWait (Box box ∷ message ∷ []) = wait_kept set.program after box message
+native_kept set after native.Bound (Box box ∷ Int i ∷ []) = bound_kept set.program after box i
 native_kept set after native.Get (Box box ∷ []) = tt
 native_kept set after native.Getnb (Box box ∷ []) = tt
 native_kept set after native.Print (v ∷ []) = print_kept after (printed v) after.kept

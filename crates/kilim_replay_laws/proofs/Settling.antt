@@ -15,6 +15,7 @@ use Rattle.kilim_isolation_laws.proofs.at_rest.Stays.{get_stays}
 use Rattle.kilim_replay_laws.specs.Leads.{more}
 use Rattle.kilim_replay_laws.specs.Verdicts.{all_settled, first_going}
 use Rattle.kilim_replay_laws.proofs.Leads.{threads_lead}
+use Rattle.kilim_isolation_laws.proofs.NotYet.{NeverPuts}
 use Rattle.kilim_replay_laws.proofs.One.{Halts, enough_before, halts_before, is_halt, next_halts}
 
 -- ---- one thread
@@ -38,15 +39,17 @@ settled_is set s t th l at quiet halt =
 
 -- ---- who waits waits in every state with the same mailboxes
 
-module _ (set : Setting) (a f : State) (same : f.mailboxes ≡ a.mailboxes) where
+module _ (set : Setting) (never : NeverPuts set) (a f : State) (same : f.mailboxes ≡ a.mailboxes) where
   kept_waits : (w : Waits) → if_waits f (Some w) ≡ if_waits a (Some w)
   kept_waits (wait.Take box) = ap (λ (m : BoxName → Mailbox ℕ). where_empty (m box).queue box) same
   kept_waits (wait.Put box) = ap (λ (m : BoxName → Mailbox ℕ). where_full (m box) box) same
 
   waits_by : (t : ℕ) (th : Thread) (o p : Option Waits) → get_at (next_move set t (lone_of a t th)) ≡ o → get_at (next_move set t (lone_of f t th)) ≡ p → if_waits f p ≡ if_waits a o
   waits_by t th None None x y = refl
-  waits_by t th None (Some w) x y = absurd (let z = sym x ∙ get_stays set t (lone_of f t th) (lone_of a t th) w refl y in cc)
-  waits_by t th (Some w) p x y = ap (if_waits f) (sym y ∙ get_stays set t (lone_of a t th) (lone_of f t th) w refl x) ∙ kept_waits w
+  waits_by t th None (Some (wait.Take box)) x y = absurd (let z = sym x ∙ get_stays set t (lone_of f t th) (lone_of a t th) (wait.Take box) refl y in cc)
+  waits_by t th None (Some (wait.Put box)) x y = absurd (never t (lone_of f t th) box y)
+  waits_by t th (Some (wait.Take box)) p x y = ap (if_waits f) (sym y ∙ get_stays set t (lone_of a t th) (lone_of f t th) (wait.Take box) refl x) ∙ kept_waits (wait.Take box)
+  waits_by t th (Some (wait.Put box)) p x y = absurd (never t (lone_of a t th) box x)
 
   pub waits_same : (t : ℕ) (th : Thread) → waits_at set f t th ≡ waits_at set a t th
   waits_same t th = waits_by t th (get_at (next_move set t (lone_of a t th))) (get_at (next_move set t (lone_of f t th))) refl refl
@@ -93,7 +96,7 @@ drop_next (y ∷ ys) (suc k) x e = drop_next ys k x e
 
 -- ---- the threads before a number have settled, and rest
 
-module _ (set : Setting) (first : State) where
+module _ (set : Setting) (never : NeverPuts set) (first : State) where
   pub record RestsBefore (k : ℕ) (a : State) : Type 0 where
     pub ends : settled_from set (suc set.limits.steps) first 0 first.threads ≡ settled_from set (suc set.limits.steps) a k (drop k first.threads)
     pub rest : all_at_rest set a 0 (take k a.threads) ≡ true
@@ -160,7 +163,7 @@ module _ (set : Setting) (first : State) where
     ends_on = before.ends ∙ ap (settled_from set (suc set.limits.steps) a k) (drop_next first.threads k old was)
 
     front_rests : all_at_rest set next 0 (take k next.threads) ≡ true
-    front_rests = ap (all_at_rest set next 0) front_same ∙ (all_rest_same set a next keeps.boxes 0 (take k a.threads) ∙ before.rest)
+    front_rests = ap (all_at_rest set next 0) front_same ∙ (all_rest_same set never a next keeps.boxes 0 (take k a.threads) ∙ before.rest)
 
     -- the thread of that number rests too
     pub rests_on : (th : Thread) → slice_get next.threads k ≡ Some th → is_at_rest set next k th ≡ true → RestsBefore (suc k) next
@@ -179,7 +182,7 @@ module _ (set : Setting) (first : State) where
         ap (waits_from set next 0) (take_next next.threads k th at)
         ∙ (waits_more next 0 (take k next.threads) th
         ∙ (ap (λ (n : ℕ). waits_from set next 0 (take k next.threads) ++ wait_entry n (waits_at set next n th)) (counted next.threads k th at)
-        ∙ ap (λ (es : List Entry). es ++ wait_entry k (waits_at set next k th)) (ap (waits_from set next 0) front_same ∙ waits_from_same set a next keeps.boxes 0 (take k a.threads))))
+        ∙ ap (λ (es : List Entry). es ++ wait_entry k (waits_at set next k th)) (ap (waits_from set next 0) front_same ∙ waits_from_same set never a next keeps.boxes 0 (take k a.threads))))
 
     -- it doesn't
     abbrev last : State
@@ -222,8 +225,8 @@ module _ (set : Setting) (first : State) where
         let there : slice_get last.threads k ≡ Some th = last_threads k (omega arith) ∙ at in
         let front : take k last.threads ≡ take k next.threads = takes_same last.threads next.threads k (λ u lt. last_threads u (omega (arith, lt))) in
         ap (first_going set last 0) (part_at last.threads k th there)
-        ∙ (going_behind last 0 (take k last.threads) (drop (suc k) last.threads) th (ap (all_at_rest set last 0) front ∙ (all_rest_same set next last last_boxes 0 (take k next.threads) ∙ front_rests))
-        (subst (λ (n : ℕ). is_at_rest set last n th ≡ false) (sym (counted last.threads k th there)) (rest_same set next last last_boxes k th ∙ goes))
+        ∙ (going_behind last 0 (take k last.threads) (drop (suc k) last.threads) th (ap (all_at_rest set last 0) front ∙ (all_rest_same set never next last last_boxes 0 (take k next.threads) ∙ front_rests))
+        (subst (λ (n : ℕ). is_at_rest set last n th ≡ false) (sym (counted last.threads k th there)) (rest_same set never next last last_boxes k th ∙ goes))
         ∙ ap (λ (n : ℕ). Some n) (counted last.threads k th there))
 
   -- all rest

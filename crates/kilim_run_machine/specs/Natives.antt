@@ -15,8 +15,11 @@ abbrev pub is_built_in_constructor : Method → Bool
 is_built_in_constructor method = method.built_in && (bytes_eq method.name (codes "<init>") && is_empty method.params)
 
 -- a method of a built-in class of that name
+abbrev pub is_of : (class name : List ℕ) → Method → Bool
+is_of class name method = method.built_in && bytes_eq class name
+
 abbrev pub is_built_in_of : Program → List ℕ → Method → Bool
-is_built_in_of p class method = method.built_in && bytes_eq (class_name p method.owner) class
+is_built_in_of p name method = is_of (class_name p method.owner) name method
 
 abbrev pub is_text_method : Program → Method → Bool
 is_text_method p method = is_built_in_of p (codes "java/lang/String") method
@@ -26,8 +29,13 @@ is_take p method = is_built_in_of p (codes "kilim/Sys") method && bytes_eq metho
 
 -- ---- what is handed out
 
+-- of a class of that name
+abbrev pub is_handed_out_of : List ℕ → Method → Bool
+is_handed_out_of class method =
+    method.built_in && not (is_built_in_constructor method || (is_of class (codes "java/lang/String") method || (is_of class (codes "kilim/Sys") method && bytes_eq method.name (codes "take"))))
+
 abbrev pub is_handed_out : Program → Method → Bool
-is_handed_out p method = method.built_in && not (is_built_in_constructor method || (is_text_method p method || is_take p method))
+is_handed_out p method = is_handed_out_of (class_name p method.owner) method
 
 -- the members of `kilim/Fiber`, in woven form
 pub data FiberMember : Type 0 where
@@ -45,7 +53,11 @@ pub data Native : Type 0 where
   -- `kilim/Task.execute` of the built-in class, which does nothing
   Execute : Native
   Start : Native
+  -- a put that ends the task where the mailbox is full, and one that waits there
   Put : Native
+  PutWait : Native
+  -- the constructor that bounds a mailbox
+  Bound : Native
   Get : Native
   Getnb : Native
   -- of an int, of a long or of a string
@@ -55,12 +67,14 @@ pub data Native : Type 0 where
   Arg : Native
   OfFiber : (member : FiberMember) → Native
 
--- by the name of the class and that of the method
+-- By the name of the class and that of the method, among the methods that are handed out: of a mailbox's two constructors one is.
 abbrev pub natives : List (List ℕ × List ℕ × Native)
 natives =
     (codes "kilim/Task", codes "start", Start)
     ∷ (codes "kilim/Task", codes "execute", Execute)
     ∷ (codes "kilim/Mailbox", codes "put", Put)
+    ∷ (codes "kilim/Mailbox", codes "putw", PutWait)
+    ∷ (codes "kilim/Mailbox", codes "<init>", Bound)
     ∷ (codes "kilim/Mailbox", codes "get", Get)
     ∷ (codes "kilim/Mailbox", codes "getnb", Getnb)
     ∷ (codes "kilim/Sys", codes "print", Print)
@@ -84,8 +98,12 @@ abbrev pub native_named : List (List ℕ × List ℕ × Native) → List ℕ →
 native_named [] class name = None
 native_named (n ∷ ns) class name = if bytes_eq class n.0 && bytes_eq name n.1 then Some n.2 else native_named ns class name
 
+-- a method of a class of that name
+abbrev pub native_in : List ℕ → Method → Option Native
+native_in class method = if is_handed_out_of class method then native_named natives class method.name else None
+
 abbrev pub native_method : Program → Method → Option Native
-native_method p method = if method.built_in then native_named natives (class_name p method.owner) method.name else None
+native_method p method = native_in (class_name p method.owner) method
 
 abbrev pub native_of : Program → MethodId → Option Native
 native_of p m = method_at p m >>= native_method p

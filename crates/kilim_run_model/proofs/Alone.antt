@@ -1,6 +1,6 @@
 -- A thread that is alone, and one that rests.
 use Rattle.std.proofs.Common.{◌≡◌, ℕ, zero, suc, ◌+◌, ◌≤◌, Bool, true, false, cond, List, [], ◌∷◌, Option, Some, None, refl, sym, ap, subst, ◌∙◌, arith}
-use Rattle.std.specs.Prelude.{ℤ, nat_lt, nat_le, is_some}
+use Rattle.std.specs.Prelude.{ℤ, pos, nat_lt, nat_le, is_some}
 use Rattle.std.proofs.lemmas.Bool.{le-leb}
 use Rattle.kilim_run_state.specs.declared.cause.EndCause.TheVariants as cause
 use Rattle.kilim_run_state.specs.declared.value.Token.{Token}
@@ -17,7 +17,7 @@ use Rattle.kilim_run_machine.specs.Moves as move
 use Rattle.kilim_run_state.specs.declared.cause.EndCause.{EndCause}
 use Rattle.kilim_run_state.specs.Shapes.{shape_of}
 use Rattle.kilim_run_model.specs.State.{Setting, Thread, Alive, Ended, State, begun_on, is_full}
-use Rattle.kilim_run_model.specs.Lone.{Lone, Next, Goes, Puts, PutWaits, Bounds, Gets, Probes, Starts, Prints, Ends, Stands, box_limit, went, pushed_on, over, put_next, message_next, start_next, print_next, printed, arg_next, arg_at, native_next, asks_next, begins_next, finish_next, on_heap, next_by, frames_next, thread_next, next_move, get_at, pushed, raised, opens_next}
+use Rattle.kilim_run_model.specs.Lone.{Lone, Next, Goes, Puts, PutWaits, Bounds, Gets, Probes, Starts, Prints, Ends, Stands, box_limit, went, pushed_on, over, put_next, message_next, put_wait_next, wait_next, bound_next, start_next, print_next, printed, arg_next, arg_at, native_next, asks_next, begins_next, finish_next, on_heap, next_by, frames_next, thread_next, next_move, get_at, pushed, raised, opens_next}
 use Rattle.kilim_run_model.specs.Turn.{quiet, gets, lone_of, moved_by, thread_moved, moved, puts, with_lone}
 use Rattle.kilim_run_model.specs.Runs.{where_empty, if_waits}
 use Rattle.kilim_run_model.specs.Course.{Deed, next_or, next_within, next_action, Done, Follows}
@@ -71,6 +71,19 @@ message_counts n p after box Null h = raised_counts n p after cause.Null h
 message_counts n p after box (Ref root) h = put_counts n after box root (shape_of p after.heap root)
 message_counts n p after box v h = tt
 
+put_wait_counts : (n : ℕ) (after : Lone) (box : BoxName) (root : ℕ) (shape : Option (List Token)) → Counts n (put_wait_next after box root shape)
+put_wait_counts n after box root None = tt
+put_wait_counts n after box root (Some shape) = tt
+
+wait_counts : (n : ℕ) (p : Program) (after : Lone) (box : BoxName) (v : Value) → HasDone n after.thread → Counts n (wait_next p after box v)
+wait_counts n p after box Null h = raised_counts n p after cause.Null h
+wait_counts n p after box (Ref root) h = put_wait_counts n after box root (shape_of p after.heap root)
+wait_counts n p after box v h = tt
+
+bound_counts : (n : ℕ) (p : Program) (after : Lone) (box : BoxName) (i : ℤ) → HasDone n after.thread → Counts n (bound_next p after box i)
+bound_counts n p after box (pos (suc i)) h = tt
+bound_counts n p after box i h = raised_counts n p after cause.Size h
+
 print_counts : (n : ℕ) (after : Lone) (t : Option Token) → Counts n (print_next after t)
 print_counts n after None = tt
 print_counts n after (Some t) = tt
@@ -83,6 +96,8 @@ native_counts : (n : ℕ) (set : Setting) (after : Lone) (nat : Native) (args : 
 native_counts n set after native.Execute (Ref r ∷ []) h = h
 native_counts n set after native.Start (Ref r ∷ []) h = start_counts n after r (shape_of set.program after.heap r)
 native_counts n set after native.Put (Box box ∷ message ∷ []) h = message_counts n set.program after box message h
+native_counts n set after native.PutWait (Box box ∷ message ∷ []) h = wait_counts n set.program after box message h
+native_counts n set after native.Bound (Box box ∷ Int i ∷ []) h = bound_counts n set.program after box i h
 native_counts n set after native.Get (Box box ∷ []) h = tt
 native_counts n set after native.Getnb (Box box ∷ []) h = tt
 native_counts n set after native.Print (v ∷ []) h = print_counts n after (printed v)

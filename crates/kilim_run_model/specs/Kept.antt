@@ -54,6 +54,7 @@ pub record IsGivenTree (p : Program) (root : Root) (heap : Objects) (n : ℕ) : 
 -- the object that is put or started
 abbrev pub given : Option Native → List Value → Option (Root × ℕ)
 given (Some native.Put) (Box box ∷ Ref n ∷ []) = Some (OfMessage, n)
+given (Some native.PutWait) (Box box ∷ Ref n ∷ []) = Some (OfMessage, n)
 given (Some native.Start) (Ref n ∷ []) = Some (OfTask, n)
 given n args = None
 

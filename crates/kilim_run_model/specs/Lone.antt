@@ -4,12 +4,14 @@
 --
 --     a built-in method   with           what the thread does next
 --     execute, yield                     goes on
---     put                 an object      puts its tree; a null is raised, too large a tree ends the task
+--     put                 an object      puts its tree; a null is raised, too large a tree ends the task; others decide whether its mailbox is full
+--     putw                an object      the same, but waits where the mailbox is full
+--     Mailbox(int)        a bound        bounds the mailbox; one below 1 is raised
 --     get, getnb                         gets, probes: others decide whether a message is there
 --     start               a task object  starts it; too large a tree ends the task; others decide whether there are too many tasks
 --     print               a value        prints its token
 --     argCount, arg                      goes on with a number; an index past the end is raised
-use Rattle.std.specs.Prelude.{ℕ, ℤ, pos, negsuc, ◌+◌, ◌%◌, ◌^◌, nat_lt, nat_le, if◌then◌else◌, List, [], ◌∷◌, Option, Some, None, length, slice_get}
+use Rattle.std.specs.Prelude.{ℕ, suc, ℤ, pos, negsuc, ◌+◌, ◌%◌, ◌^◌, nat_lt, nat_le, if◌then◌else◌, List, [], ◌∷◌, Option, Some, None, length, slice_get}
 use Rattle.std.specs.Int.{w32, cast_signed}
 use Rattle.std.specs.FinMap.{insert}
 use Rattle.kilim_run_state.specs.declared.cause.EndCause.{EndCause}
@@ -52,8 +54,7 @@ pub record Lone : Type 0 where
 -- take isn't on its stack yet, and a tree that leaves is still in the heap; or it stands still.
 pub data Next : Type 0 where
   Goes : (after : Lone) → Next
-  -- A put that ends the task where the mailbox is full, and one that waits there; and a mailbox gets a bound. No built-in method does one of
-  -- the last two yet.
+  -- a put that ends the task where the mailbox is full, and one that waits there; and a mailbox gets a bound
   Puts : (box : BoxName) (root : ℕ) (shape : List Token) (after : Lone) → Next
   PutWaits : (box : BoxName) (root : ℕ) (shape : List Token) (after : Lone) → Next
   Bounds : (box : BoxName) (most : ℕ) (after : Lone) → Next
@@ -129,6 +130,20 @@ message_next p after box Null = raised p after cause.Null
 message_next p after box (Ref n) = put_next after box n (shape_of p after.heap n)
 message_next p after box v = Stands
 
+abbrev pub put_wait_next : Lone → BoxName → ℕ → Option (List Token) → Next
+put_wait_next after box n None = over after cause.Large
+put_wait_next after box n (Some shape) = PutWaits box n shape after
+
+abbrev pub wait_next : Program → Lone → BoxName → Value → Next
+wait_next p after box Null = raised p after cause.Null
+wait_next p after box (Ref n) = put_wait_next after box n (shape_of p after.heap n)
+wait_next p after box v = Stands
+
+-- a bound is at least 1
+abbrev pub bound_next : Program → Lone → BoxName → ℤ → Next
+bound_next p after box (pos (suc n)) = Bounds box (suc n) after
+bound_next p after box n = raised p after cause.Size
+
 abbrev pub start_next : Lone → ℕ → Option (List Token) → Next
 start_next after n None = over after cause.Large
 start_next after n (Some shape) = Starts n shape after
@@ -163,6 +178,8 @@ abbrev pub native_next : Setting → Lone → Native → List Value → Next
 native_next setting after native.Execute (Ref n ∷ []) = Goes after
 native_next setting after native.Start (Ref n ∷ []) = start_next after n (shape_of setting.program after.heap n)
 native_next setting after native.Put (Box box ∷ message ∷ []) = message_next setting.program after box message
+native_next setting after native.PutWait (Box box ∷ message ∷ []) = wait_next setting.program after box message
+native_next setting after native.Bound (Box box ∷ Int n ∷ []) = bound_next setting.program after box n
 native_next setting after native.Get (Box box ∷ []) = Gets box after
 native_next setting after native.Getnb (Box box ∷ []) = Probes box after
 native_next setting after native.Print (v ∷ []) = print_next after (printed v)

@@ -1,5 +1,5 @@
 -- What a built-in method does to what is kept: nothing, but for a tree that it is given, which goes, and one that comes.
-use Rattle.std.proofs.Common.{◌≡◌, ◌⊎◌, inl, inr, cond, ℕ, ◌+◌, ◌≤◌, ℤ, Bool, true, false, List, [], ◌∷◌, length, Option, Some, None, refl, sym, ap, subst, ◌∙◌}
+use Rattle.std.proofs.Common.{◌≡◌, ◌⊎◌, inl, inr, cond, ℕ, ◌+◌, ◌≤◌, ℤ, Bool, true, false, List, [], ◌∷◌, length, Option, Some, None, refl, sym, ap, subst, ◌∙◌, zero, suc, pos, negsuc}
 use Rattle.std.specs.Prelude.{◌&&◌}
 use Rattle.std.specs.FinMap.{get}
 use Rattle.std.proofs.lemmas.Bool.{and_parts, false≢true}
@@ -39,7 +39,7 @@ use Rattle.kilim_isolation_graph.specs.declared.entry.Parameter.{Parameter}
 use Rattle.kilim_isolation_graph.specs.Entry.{parameters_of, quality}
 use Rattle.kilim_isolation_laws.specs.Laws.{IsRunOfAccepted, listed_at}
 use Rattle.kilim_isolation_laws.proofs.Moving.{forest_of}
-use Rattle.kilim_isolation_laws.proofs.Natives.{Begins, Puts, below_tree, message_kind, n, not_owned, put_is, put_parameters, start_is, start_parameters, task_kind, tree_of_task}
+use Rattle.kilim_isolation_laws.proofs.Natives.{Begins, Puts, below_tree, message_kind, n, not_owned, put_is, put_parameters, start_is, start_parameters, task_kind, tree_of_task, wait_is}
 use Rattle.kilim_isolation_laws.specs.reached_objects.graphs.Threads.{AskFits, Gives}
 use Rattle.kilim_run_model.specs.declared.deed.Deed.{Deed}
 use Rattle.kilim_run_model.specs.Lone.{arg_at, printed}
@@ -51,7 +51,7 @@ use Rattle.kilim_type_laws.specs.Laws.{typing_at}
 use Rattle.kilim_fiber_spec.specs.lone.Law.{lone_frames}
 use Rattle.kilim_fiber_laws.proofs.receivers.Chain.{wants_all}
 use Rattle.kilim_fiber_laws.proofs.receivers.Held.{Held, HeldIn, IsPrivate, Keeps, held_map, rules_hold, verified}
-use Rattle.kilim_fiber_spec.specs.Acts.{Action, Wants, World, acting, asks, ending, gives_arg, last, native_does, prints, probe_by, put_by, puts, puts_value, receives, start_by, starts, take_by}
+use Rattle.kilim_fiber_spec.specs.Acts.{Action, Wants, World, acting, asks, ending, gives_arg, last, native_does, prints, probe_by, put_by, puts, puts_value, receives, start_by, starts, take_by, put_wait_by, put_waits, waits_value, bounds}
 use Rattle.kilim_fiber_spec.specs.Acts as action
 use Rattle.kilim_fiber_spec.specs.Fibers.{frame}
 use Rattle.kilim_fiber_spec.specs.Thread.{Frame, Run, Stop, Thread, push}
@@ -82,17 +82,14 @@ module _ (set : Setting) (run : IsRunOfAccepted set) (of : Classes) (next : ℕ)
     quality_free : (d : ClassId) → class_kind set.program d ≡ kind.Tree → quality set.program (class_type d.0) Free ≡ Some Free
     quality_free d e = ap (λ (z : Kind). cond (is_tree_kind z) (Some Free) None) e
 
-    put_given : (box : BoxName) (root : ℕ) → native_of set.program c ≡ Some native.Put → args ≡ Box box ∷ Ref root ∷ [] → (is_of set.program (of root) (class_type (n set.program run.keeps run.form + 2)) ≡ true) × Gives set.program (parameters_of fits.callee) args root
-    put_given box root known own = (
+    given_message : Puts (n set.program run.keeps run.form) fits.callee → (box : BoxName) (root : ℕ) → args ≡ Box box ∷ Ref root ∷ [] → (is_of set.program (of root) (class_type (n set.program run.keeps run.form + 2)) ≡ true) × Gives set.program (parameters_of fits.callee) args root
+    given_message puts box root own = (
       (and_parts (is_of set.program (of root) message) true (and_parts _ (is_of set.program (of root) message && true) a).1).0,
       subst (λ (qs : List Parameter). Gives set.program qs args root) (sym (put_parameters set.program run.keeps run.form fits.callee puts))
           (subst (λ (vs : List Value). Gives set.program (record { ty = class_type (n set.program run.keeps run.form + 5); qualifier = Safe } ∷ record { ty = message; qualifier = Free } ∷ []) vs root) (sym own)
           (inr (not_owned (is_tree_kind (kind_of set.program (class_type (n set.program run.keeps run.form + 5)))), inl (quality_free (class_id (n set.program run.keeps run.form + 2)) (message_kind set.program run.keeps run.form), refl, tt)))),
     )
       where
-        puts : Puts (n set.program run.keeps run.form) fits.callee
-        puts = put_is set.program run.keeps run.form c fits.callee fits.is known
-
         types : native_types fits.callee ≡ class_vtype (class_id (n set.program run.keeps run.form + 5)) ∷ vtype message ∷ []
         types =
             ap (λ (z : Bool). native_types (record fits.callee { is_static = z })) puts.0
@@ -101,6 +98,12 @@ module _ (set : Setting) (run : IsRunOfAccepted set) (of : Classes) (next : ℕ)
 
         a : have_types set.program fits.callee of (class_vtype (class_id (n set.program run.keeps run.form + 5)) ∷ vtype message ∷ []) (Box box ∷ Ref root ∷ []) ≡ true
         a = subst (λ (vs : List Value). have_types set.program fits.callee of (class_vtype (class_id (n set.program run.keeps run.form + 5)) ∷ vtype message ∷ []) vs ≡ true) own (subst (λ (ts : List VType). have_types set.program fits.callee of ts args ≡ true) types arguments)
+
+    put_given : (box : BoxName) (root : ℕ) → native_of set.program c ≡ Some native.Put → args ≡ Box box ∷ Ref root ∷ [] → (is_of set.program (of root) (class_type (n set.program run.keeps run.form + 2)) ≡ true) × Gives set.program (parameters_of fits.callee) args root
+    put_given box root known own = given_message (put_is set.program run.keeps run.form c fits.callee fits.is known) box root own
+
+    wait_given : (box : BoxName) (root : ℕ) → native_of set.program c ≡ Some native.PutWait → args ≡ Box box ∷ Ref root ∷ [] → (is_of set.program (of root) (class_type (n set.program run.keeps run.form + 2)) ≡ true) × Gives set.program (parameters_of fits.callee) args root
+    wait_given box root known own = given_message (wait_is set.program run.keeps run.form c fits.callee fits.is known) box root own
 
     start_given : (root : ℕ) → native_of set.program c ≡ Some native.Start → args ≡ Ref root ∷ [] → (is_of set.program (of root) (class_type (n set.program run.keeps run.form + 4)) ≡ true) × Gives set.program (parameters_of fits.callee) args root
     start_given root known own = (
@@ -244,6 +247,25 @@ module _ (set : Setting) (run : IsRunOfAccepted set) (of : Classes) (next : ℕ)
     message_so box (Ref root) known own = puts_so box root known own (shape_of set.program w.heap root) (ap (λ (k : Objects). shape_of set.program k root) (sym same_heap))
     message_so box v known own = tt
 
+    put_wait_so : (box : BoxName) (root : ℕ) → native_of set.program c ≡ Some native.PutWait → args ≡ Box box ∷ Ref root ∷ [] → (shape : List Token) → shape_of set.program h root ≡ Some shape → (act : Act) (rest : List Deed) → HeldIn set run (put_wait_by set w Stop go box shape root act rest)
+    put_wait_so box root known own shape e (Put a k z) rest =
+        goes_away native.PutWait known refl root shape (class_id (n set.program run.keeps run.form + 2)) (message_kind set.program run.keeps run.form) (wait_given kept (frame m q l s ∷ lone_frames b) full box root known own).0 (λ k frames fits. (wait_given k frames fits box root known own).1) e _ (gone_heap root)
+    put_wait_so box root known own shape e act rest = tt
+
+    put_waits_so : (box : BoxName) (root : ℕ) → native_of set.program c ≡ Some native.PutWait → args ≡ Box box ∷ Ref root ∷ [] → (o : Option (List Token)) → shape_of set.program h root ≡ o → HeldIn set run (put_waits set w Stop go box root o)
+    put_waits_so box root known own None e = ended cause.Large
+    put_waits_so box root known own (Some shape) e = acted (action.PutWaits box root shape) (λ deed rest. put_wait_by set w Stop go box shape root deed.act rest) (λ d rest. put_wait_so box root known own shape e d.act rest)
+
+    wait_so : (box : BoxName) (v : Value) → native_of set.program c ≡ Some native.PutWait → args ≡ Box box ∷ v ∷ [] → HeldIn set run (waits_value set w Stop go box v)
+    wait_so box Null known own = ended cause.Null
+    wait_so box (Ref root) known own = put_waits_so box root known own (shape_of set.program w.heap root) (ap (λ (k : Objects). shape_of set.program k root) (sym same_heap))
+    wait_so box v known own = tt
+
+    bound_so : native_of set.program c ≡ Some native.Bound → (box : BoxName) (i : ℤ) → HeldIn set run (bounds set w Stop go box i)
+    bound_so known box (pos (suc i)) = acted (action.Bounds box (suc i)) _ (λ d rest. with_none native.Bound known refl _ same_heap)
+    bound_so known box (pos zero) = ended cause.Size
+    bound_so known box (negsuc i) = ended cause.Size
+
     start_so : (root : ℕ) → native_of set.program c ≡ Some native.Start → args ≡ Ref root ∷ [] → (shape : List Token) → shape_of set.program h root ≡ Some shape → (act : Act) (rest : List Deed) → HeldIn set run (start_by set w Stop go shape root act rest)
     start_so root known own shape e (Start k z) rest =
         goes_away native.Start known refl root shape (class_id (n set.program run.keeps run.form + 4)) (task_kind set.program run.keeps run.form) (start_given kept (frame m q l s ∷ lone_frames b) full root known own).0 (λ k frames fits. (start_given k frames fits root known own).1) e _ (gone_heap root)
@@ -280,6 +302,8 @@ module _ (set : Setting) (run : IsRunOfAccepted set) (of : Classes) (next : ℕ)
     does_so native.Execute (Ref root ∷ []) known own = with_none native.Execute known refl _ same_heap
     does_so native.Start (Ref root ∷ []) known own = starts_so root known own (shape_of set.program w.heap root) (ap (λ (k : Objects). shape_of set.program k root) (sym same_heap))
     does_so native.Put (Box box ∷ v ∷ []) known own = message_so box v known own
+    does_so native.PutWait (Box box ∷ v ∷ []) known own = wait_so box v known own
+    does_so native.Bound (Box box ∷ Int i ∷ []) known own = bound_so known box i
     does_so native.Get (Box box ∷ []) known own = acted (action.Gets box) _ (λ d rest. take_so native.Get known refl box d.taken d.act rest)
     does_so native.Getnb (Box box ∷ []) known own = acted (action.Probes box) _ (λ d rest. probe_so known box d.taken d.act rest)
     does_so native.Print (v ∷ []) known own = prints_so known (printed v)

@@ -117,6 +117,7 @@ module _ (set : Setting) (W : Program) (marks : List (List Bool)) (most : ℕ) (
     keeps_pausing (Some native.Execute) args r n pn g = path.none_given (r, n) g
     keeps_pausing (Some native.Start) args r n pn g = false≢true (pn native.Start refl)
     keeps_pausing (Some native.Put) args r n pn g = false≢true (pn native.Put refl)
+    keeps_pausing (Some native.PutWait) args r n pn g = false≢true (pn native.PutWait refl)
     keeps_pausing o args r n pn g = path.none_given (r, n) g
 
     -- the call has room with the fiber as it has without

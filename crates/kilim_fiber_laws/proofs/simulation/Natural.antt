@@ -1,6 +1,6 @@
 -- What a built-in method does is one outcome, whichever machine goes on with it.
 use Rattle.std.proofs.Common.{◌≡◌, ℕ, ◌+◌, Bool, true, false, ℤ, List, [], ◌∷◌, Option, Some, None, refl, sym, ap, subst, ◌∙◌}
-use Rattle.std.specs.Prelude.{nat_lt, if◌then◌else◌}
+use Rattle.std.specs.Prelude.{zero, suc, pos, negsuc, nat_lt, if◌then◌else◌}
 use Rattle.kilim_run_state.specs.declared.cause.EndCause.{EndCause}
 use Rattle.kilim_run_state.specs.declared.cause.EndCause.TheVariants as cause
 use Rattle.kilim_program.specs.declared.names.BoxName.{BoxName}
@@ -17,7 +17,7 @@ use Rattle.kilim_run_model.specs.declared.deed.Deed.{Deed}
 use Rattle.kilim_run_state.specs.Shapes.{shape_of}
 use Rattle.kilim_run_model.specs.Lone.{box_limit, printed, arg_at}
 use Rattle.kilim_run_state.specs.Trees.{OfMessage, built}
-use Rattle.kilim_fiber_spec.specs.Acts.{World, Over, Wants, Action, Puts, Gets, Probes, Starts, Prints, Ends, acting, last, ending, put_by, puts, puts_value, start_by, starts, receives, take_by, takes, probe_by, probes, prints, gives_arg, native_does, opens_box}
+use Rattle.kilim_fiber_spec.specs.Acts.{World, Over, Wants, Action, Puts, PutWaits, Bounds, Gets, Probes, Starts, Prints, Ends, acting, last, ending, put_by, puts, puts_value, put_wait_by, put_waits, waits_value, bounds, start_by, starts, receives, take_by, takes, probe_by, probes, prints, gives_arg, native_does, opens_box}
 
 pub data Outcome : Type 0 where
   GoesOn : (after : World) (result : Option Value) → Outcome
@@ -88,6 +88,24 @@ module _ {S : Type 0} (set : Setting) (w : World) (over : Over → S) (go : Worl
   puts_value_same box (Ref n) = puts_same box n (shape_of set.program w.heap n)
   puts_value_same box v = (refl, tt)
 
+  put_wait_same : (box : BoxName) (shape : List Token) (n : ℕ) (act : Act) (rest : List Deed) → Same (put_wait_by set w over go box shape n act rest) (put_wait_by set w IsOver GoesOn box shape n act rest)
+  put_wait_same box shape n (Put b k s) rest = (refl, refl)
+  put_wait_same box shape n act rest = (refl, tt)
+
+  put_waits_same : (box : BoxName) (n : ℕ) (o : Option (List Token)) → Same (put_waits set w over go box n o) (put_waits set w IsOver GoesOn box n o)
+  put_waits_same box n None = end_same cause.Large
+  put_waits_same box n (Some shape) = acting_same (PutWaits box n shape) _ _ (λ d rest. put_wait_same box shape n d.act rest)
+
+  waits_value_same : (box : BoxName) (v : Value) → Same (waits_value set w over go box v) (waits_value set w IsOver GoesOn box v)
+  waits_value_same box Null = end_same cause.Null
+  waits_value_same box (Ref n) = put_waits_same box n (shape_of set.program w.heap n)
+  waits_value_same box v = (refl, tt)
+
+  bounds_same : (box : BoxName) (i : ℤ) → Same (bounds set w over go box i) (bounds set w IsOver GoesOn box i)
+  bounds_same box (pos (suc n)) = acting_same (Bounds box (suc n)) _ _ (λ d rest. (refl, refl))
+  bounds_same box (pos zero) = end_same cause.Size
+  bounds_same box (negsuc n) = end_same cause.Size
+
   start_same : (shape : List Token) (n : ℕ) (act : Act) (rest : List Deed) → Same (start_by set w over go shape n act rest) (start_by set w IsOver GoesOn shape n act rest)
   start_same shape n (Start t s) rest = (refl, refl)
   start_same shape n (End c) rest = last_same cause.Tasks rest
@@ -128,6 +146,8 @@ module _ {S : Type 0} (set : Setting) (w : World) (over : Over → S) (go : Worl
   native_same native.Execute (Ref n ∷ []) = (refl, refl)
   native_same native.Start (Ref n ∷ []) = starts_same n (shape_of set.program w.heap n)
   native_same native.Put (Box box ∷ message ∷ []) = puts_value_same box message
+  native_same native.PutWait (Box box ∷ message ∷ []) = waits_value_same box message
+  native_same native.Bound (Box box ∷ Int i ∷ []) = bounds_same box i
   native_same native.Get (Box box ∷ []) = takes_same box
   native_same native.Getnb (Box box ∷ []) = probes_same box
   native_same native.Print (v ∷ []) = prints_same (printed v)

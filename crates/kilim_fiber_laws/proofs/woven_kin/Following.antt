@@ -1,5 +1,5 @@
 -- What a fiber does next is what the woven machine's does next.
-use Rattle.std.proofs.Common.{◌≡◌, ℕ, ◌+◌, ℤ, pos, Bool, true, false, cond, not, List, ◌∷◌, map, Option, Some, None, refl, sym, ap, subst, ◌∙◌, []}
+use Rattle.std.proofs.Common.{◌≡◌, ℕ, ◌+◌, ℤ, pos, Bool, true, false, cond, not, List, ◌∷◌, map, Option, Some, None, refl, sym, ap, subst, ◌∙◌, [], zero, suc, negsuc}
 use Rattle.std.specs.Prelude.{nat_lt, nat_le, ◌&&◌}
 use Rattle.std.specs.FinMap.{get, insert}
 use Rattle.kilim_program.specs.Program.{Program}
@@ -40,7 +40,7 @@ use Rattle.kilim_fiber_spec.proofs.fiber_kin.Added.{added, added_new, added_old,
 use Rattle.kilim_fiber_spec.proofs.fiber_kin.Nexts.{again}
 use Rattle.kilim_fiber_spec.specs.Fibers.{Fib, Fiber_at, Rec, Saved, executes_on, first_receiver, is_pausing, is_rewinding, member_does, one_if, pausing, place_while, raised, rewound, wfetch}
 use Rattle.kilim_fiber_laws.specs.woven_kin.Standing.{Standing}
-use Rattle.kilim_fiber_laws.specs.woven_kin.Nexts.{Next, Goes, Gets, Rests, Ends, Stands, counted, ticked, with_result, put_next, message_next, start_next, print_next, arg_next, paused_at, taken_at, get_next, yield_next, native_next, asks_next, opens_next, begun_in, begun_with, begins_next, finish_next, stood, next_by, spent_or, found_next, resumes_next, next_in, next_of}
+use Rattle.kilim_fiber_laws.specs.woven_kin.Nexts.{Next, Goes, Gets, Rests, Ends, Stands, counted, ticked, with_result, put_next, message_next, start_next, print_next, arg_next, paused_at, taken_at, get_next, yield_next, native_next, asks_next, opens_next, begun_in, begun_with, begins_next, finish_next, stood, next_by, spent_or, found_next, resumes_next, next_in, next_of, put_wait_next, wait_next, bound_next}
 use Rattle.kilim_fiber_laws.specs.woven_kin.Alike.{RecordKin, RecordsKin, FibersKin, IsLike, Like, NextLike, GivesWhole, IsWholeAt, IsWhole, makes_at, is_end, HasFree, spends}
 use Rattle.kilim_fiber_laws.proofs.woven_kin.Records.{fibers_up, rewinding_same, pausing_same, rewound_kin, pausing_kin, resumed_kin, receiver_kin}
 
@@ -238,6 +238,10 @@ module _ (set : Setting) (W : Program) (of : Names) (t : ℕ) (a b : Standing) (
     put_kin box n x e whole None is = refl
     put_kin box n x e whole (Some shape) is = (refl, refl, record { of = of; is = counts_both; named = e; whole = whole; has = is })
 
+    put_wait_kin : (box : BoxName) (n x : ℕ) → of n ≡ Some x → IsWholeTree p OfMessage a.heap n → (s : Option (List Token)) → shape_of p a.heap n ≡ s → AlsoFits (put_wait_next c box n s) (put_wait_next d box x s)
+    put_wait_kin box n x e whole None is = refl
+    put_wait_kin box n x e whole (Some shape) is = (refl, refl, record { of = of; is = counts_both; named = e; whole = whole; has = is })
+
     start_kin : (n x : ℕ) → of n ≡ Some x → IsWholeTree p OfTask a.heap n → (s : Option (List Token)) → shape_of p a.heap n ≡ s → AlsoFits (start_next c n s) (start_next d x s)
     start_kin n x e whole None is = refl
     start_kin n x e whole (Some shape) is = (refl, record { of = of; is = counts_both; named = e; whole = whole; has = is })
@@ -254,6 +258,20 @@ module _ (set : Setting) (W : Program) (of : Names) (t : ℕ) (a b : Standing) (
         subst (λ (z : Option (List Token)). AlsoFits (put_next c box n (shape_of p a.heap n)) (put_next d box (number_of (of n)) z)) (same_shape OfMessage n (number_of (of n)) e tree)
         (put_kin box n (number_of (of n)) e tree (shape_of p a.heap n) refl)
     message_kin box _ e whole = tt
+
+    wait_kin : (box : BoxName) (v : Value) → IsKin of v (renamed of v) → ((root : Root) (n : ℕ) → given (Some native.PutWait) (Box box ∷ v ∷ []) ≡ Some (root, n) → IsWholeTree p root a.heap n) →
+        AlsoFits (wait_next p c box v) (wait_next p d box (renamed of v))
+    wait_kin box Null e whole = refl
+    wait_kin box (Ref n) e whole =
+        let tree = whole OfMessage n refl in
+        subst (λ (z : Option (List Token)). AlsoFits (put_wait_next c box n (shape_of p a.heap n)) (put_wait_next d box (number_of (of n)) z)) (same_shape OfMessage n (number_of (of n)) e tree)
+        (put_wait_kin box n (number_of (of n)) e tree (shape_of p a.heap n) refl)
+    wait_kin box _ e whole = tt
+
+    bound_kin : (box : BoxName) (i : ℤ) → AlsoFits (bound_next c box i) (bound_next d box i)
+    bound_kin box (pos (suc n)) = (refl, refl, onward)
+    bound_kin box (pos zero) = refl
+    bound_kin box (negsuc n) = refl
 
     start_of_kin : (n : ℕ) → of n ≡ Some (number_of (of n)) → IsWholeTree p OfTask a.heap n → AlsoFits (start_next c n (shape_of p a.heap n)) (start_next d (number_of (of n)) (shape_of p b.heap (number_of (of n))))
     start_of_kin n e tree =
@@ -332,6 +350,8 @@ module _ (set : Setting) (W : Program) (of : Names) (t : ℕ) (a b : Standing) (
     native_kin native.Execute (Ref n ∷ Fiber ∷ []) e whole = onward
     native_kin native.Start (Ref n ∷ []) e whole = start_of_kin n e.0 (whole OfTask n refl)
     native_kin native.Put (Box box ∷ v ∷ []) e whole = message_kin box v e.1.0 whole
+    native_kin native.PutWait (Box box ∷ v ∷ []) e whole = wait_kin box v e.1.0 whole
+    native_kin native.Bound (Box box ∷ Int i ∷ []) e whole = bound_kin box i
     native_kin native.Get (v ∷ Fiber ∷ []) e whole = get_kin v
     native_kin native.Getnb (Box box ∷ []) e whole = (refl, onward)
     native_kin native.Print (v ∷ []) e whole = subst (λ (z : Option Token). AlsoFits (print_next c (printed v)) (print_next d z)) (printed_same of v) (print_kin (printed v))

@@ -19,7 +19,7 @@ use Rattle.kilim_fiber_spec.specs.fiber_kin.Mine.{all_mine}
 use Rattle.kilim_fiber_spec.specs.fiber_kin.Acts.{is_making}
 use Rattle.kilim_fiber_spec.specs.Fibers.{Fib, Fiber_at, Rec, Saved, is_rewinding, wfetch}
 use Rattle.kilim_fiber_laws.specs.woven_kin.Standing.{Standing}
-use Rattle.kilim_fiber_laws.specs.woven_kin.Nexts.{Next, Goes, Puts, Gets, Probes, Starts, Prints, Rests, Ends, Stands, next_of}
+use Rattle.kilim_fiber_laws.specs.woven_kin.Nexts.{Next, Goes, Puts, PutWaits, Bounds, Gets, Probes, Starts, Prints, Rests, Ends, Stands, next_of}
 
 -- ---- records; `of` gives for a name the place
 
@@ -63,6 +63,8 @@ pub record Giving (p : Program) (root : Root) (n m : ℕ) (shape : List Token) (
 abbrev pub NextLike : Program → Next → Next → Type 0
 NextLike p (Goes a) (Goes f) = Like a f
 NextLike p (Puts box n shape a) (Puts other m again f) = (box ≡ other) × (shape ≡ again) × Giving p OfMessage n m shape a f
+NextLike p (PutWaits box n shape a) (PutWaits other m again f) = (box ≡ other) × (shape ≡ again) × Giving p OfMessage n m shape a f
+NextLike p (Bounds box most a) (Bounds other least f) = (box ≡ other) × (most ≡ least) × Like a f
 NextLike p (Gets box a b) (Gets other f g) = (box ≡ other) × Like a f × Like b g
 NextLike p (Probes box a) (Probes other f) = (box ≡ other) × Like a f
 NextLike p (Starts n shape a) (Starts m again f) = (shape ≡ again) × Giving p OfTask n m shape a f

@@ -1,6 +1,6 @@
 -- What a woven fiber does next: the one table of that, computed from the fiber alone. It leaves open what others decide. The woven
 -- machine of kilim_fiber_spec, which reads that from lists, and a fiber that is run both follow what stands here.
-use Rattle.std.specs.Prelude.{ℕ, ◌+◌, ℤ, nat_lt, nat_le, Bool, true, false, not, ◌&&◌, if◌then◌else◌, List, ◌∷◌, Option, Some, None, length, []}
+use Rattle.std.specs.Prelude.{ℕ, suc, ◌+◌, ℤ, pos, nat_lt, nat_le, Bool, true, false, not, ◌&&◌, if◌then◌else◌, List, ◌∷◌, Option, Some, None, length, []}
 use Rattle.std.specs.FinMap.{insert}
 use Rattle.kilim_program.specs.declared.class.Method.{Method}
 use Rattle.kilim_program.specs.declared.instr.Instr.{Instr}
@@ -31,6 +31,8 @@ use Rattle.kilim_fiber_laws.specs.woven_kin.Standing.{Standing}
 pub data Next : Type 0 where
   Goes : (after : Standing) → Next
   Puts : (box : BoxName) (root : ℕ) (shape : List Token) (after : Standing) → Next
+  PutWaits : (box : BoxName) (root : ℕ) (shape : List Token) (after : Standing) → Next
+  Bounds : (box : BoxName) (most : ℕ) (after : Standing) → Next
   Gets : (box : BoxName) (paused after : Standing) → Next
   Probes : (box : BoxName) (after : Standing) → Next
   Starts : (root : ℕ) (shape : List Token) (after : Standing) → Next
@@ -66,6 +68,20 @@ abbrev pub message_next : Program → Standing → BoxName → Value → Next
 message_next p l box Null = Ends cause.Null
 message_next p l box (Ref n) = put_next l box n (shape_of p l.heap n)
 message_next p l box v = Stands
+
+abbrev pub put_wait_next : Standing → BoxName → ℕ → Option (List Token) → Next
+put_wait_next l box n None = Ends cause.Large
+put_wait_next l box n (Some shape) = PutWaits box n shape (counted l)
+
+abbrev pub wait_next : Program → Standing → BoxName → Value → Next
+wait_next p l box Null = Ends cause.Null
+wait_next p l box (Ref n) = put_wait_next l box n (shape_of p l.heap n)
+wait_next p l box v = Stands
+
+-- a bound is at least 1
+abbrev pub bound_next : Standing → BoxName → ℤ → Next
+bound_next l box (pos (suc n)) = Bounds box (suc n) (counted l)
+bound_next l box n = Ends cause.Size
 
 abbrev pub start_next : Standing → ℕ → Option (List Token) → Next
 start_next l n None = Ends cause.Large
@@ -105,6 +121,8 @@ abbrev pub native_next : Setting → Standing → Native → List Value → Next
 native_next set l native.Execute (Ref n ∷ Fiber ∷ []) = Goes (counted l)
 native_next set l native.Start (Ref n ∷ []) = start_next l n (shape_of set.program l.heap n)
 native_next set l native.Put (Box box ∷ message ∷ []) = message_next set.program l box message
+native_next set l native.PutWait (Box box ∷ message ∷ []) = wait_next set.program l box message
+native_next set l native.Bound (Box box ∷ Int n ∷ []) = bound_next l box n
 native_next set l native.Get (v ∷ Fiber ∷ []) = spent_or set true l.done (get_next l v)
 native_next set l native.Getnb (Box box ∷ []) = Probes box (counted l)
 native_next set l native.Print (v ∷ []) = print_next l (printed v)

@@ -1,6 +1,6 @@
 -- Row for row, a step of the thread is the next of the thread on its own heap.
 use Rattle.std.proofs.Common.{◌≡◌, ℕ, suc, ◌+◌, Bool, true, false, ℤ, List, [], ◌∷◌, length, Option, Some, None, refl, sym, ap, subst, ◌∙◌}
-use Rattle.std.specs.Prelude.{nat_le, nat_lt, if◌then◌else◌}
+use Rattle.std.specs.Prelude.{zero, pos, negsuc, nat_le, nat_lt, if◌then◌else◌}
 use Rattle.kilim_run_state.specs.declared.cause.EndCause.{EndCause}
 use Rattle.kilim_run_state.specs.declared.cause.EndCause.TheVariants as cause
 use Rattle.kilim_program.specs.declared.class.Method.{Method}
@@ -27,13 +27,13 @@ use Rattle.kilim_run_machine.specs.Moves as move
 use Rattle.kilim_run_state.specs.Shapes.{shape_of}
 use Rattle.kilim_run_state.specs.Trees.{OfMessage, built}
 use Rattle.kilim_run_model.specs.State.{Setting, Alive, begun_in, begun_on}
-use Rattle.kilim_run_model.specs.Lone.{Lone, Next, arg_at, arg_next, asks_next, begins_next, box_limit, ended, finish_next, frames_next, message_next, native_next, next_by, next_move, on_heap, opens_next, print_next, printed, put_next, start_next, thread_next, went}
+use Rattle.kilim_run_model.specs.Lone.{Lone, Next, arg_at, arg_next, asks_next, begins_next, box_limit, ended, finish_next, frames_next, message_next, native_next, next_by, next_move, on_heap, opens_next, print_next, printed, put_next, put_wait_next, bound_next, raised, start_next, thread_next, wait_next, went}
 use Rattle.kilim_run_model.specs.Lone as next
-use Rattle.kilim_run_model.specs.Course.{fills_deed, probes_deed, starts_deed, takes_deed, tree_came}
+use Rattle.kilim_run_model.specs.Course.{fills_deed, probes_deed, puts_deed, starts_deed, takes_deed, tree_came}
 use Rattle.kilim_run_model.proofs.Raised.{raised_over, raises_over, throws_over}
 use Rattle.kilim_run_machine.specs.Raising.{NoTables}
 use Rattle.kilim_run_model.specs.declared.deed.Deed.{Deed}
-use Rattle.kilim_fiber_spec.specs.Acts.{World, Over, Wants, Finished, Astray, Lost, counted, with_heap, ending, spending, last, put_by, puts, puts_value, start_by, starts, receives, take_by, takes, probe_by, probes, prints, gives_arg, native_does, asks, makes, opens_box}
+use Rattle.kilim_fiber_spec.specs.Acts.{World, Over, Wants, Finished, Astray, Lost, counted, with_heap, ending, spending, last, put_by, puts, puts_value, put_wait_by, put_waits, waits_value, bounds, start_by, starts, receives, take_by, takes, probe_by, probes, prints, gives_arg, native_does, asks, makes, opens_box}
 use Rattle.kilim_fiber_spec.specs.Acts as action
 use Rattle.kilim_fiber_spec.specs.Thread.{Frame, At, Thread, Run, Stop, push, step, fetch, own_of, own_in, code_in, found_does, effect_does, finishes, begins, begins_in, self_of}
 use Rattle.kilim_fiber_spec.specs.Fibers.{frame}
@@ -99,6 +99,46 @@ module _ (set : Setting) (none : NoTables set.program) where
     messages box (Text z) = refl
     messages box (Box z) = refl
     messages box Fiber = refl
+
+    put_waits_next : (box : BoxName) (n : ℕ) (o : Option (List Token)) → N w (put_wait_next after box n o) (put_waits set w Stop go box n o)
+    put_waits_next box n None = ends w after cause.Large
+    put_waits_next box n (Some shape) = by w.deeds
+      where
+        told : (d : Deed) (rest : List Deed) (act : Act) → IsDone rest w.acts w.task (puts_deed set.program box n shape after act) (put_wait_by set w Stop go box shape n act rest)
+        told d rest (Put c k z) = (refl, refl, refl, refl)
+        told d rest (Take c k) = refl
+        told d rest (Empty c) = refl
+        told d rest (Start k z) = refl
+        told d rest (Print z) = refl
+        told d rest (End c) = refl
+        told d rest (Wait c) = refl
+        told d rest (Bound c k) = refl
+
+        by : (ds : List Deed) → IsActed set ds w.acts w.task (next.PutWaits box n shape after) (elim ds [ [] ↦ Stop (Wants (action.PutWaits box n shape) w) | d ∷ rest ↦ put_wait_by set w Stop go box shape n d.act rest ])
+        by [] = (w, refl, (refl, refl))
+        by (d ∷ rest) = told d rest d.act
+
+    waits_next : (box : BoxName) (v : Value) → N w (wait_next set.program after box v) (waits_value set w Stop go box v)
+    waits_next box Null = subst (λ (n : Next). N w n (ending set w Stop cause.Null)) (sym (raised_over set.program none after cause.Null)) (ends w after cause.Null)
+    waits_next box (Ref n) = put_waits_next box n (shape_of set.program w.heap n)
+    waits_next box (Int z) = refl
+    waits_next box (Long z) = refl
+    waits_next box (Text z) = refl
+    waits_next box (Box z) = refl
+    waits_next box Fiber = refl
+
+    no_bound : N w (raised set.program after cause.Size) (ending set w Stop cause.Size)
+    no_bound = subst (λ (n : Next). N w n (ending set w Stop cause.Size)) (sym (raised_over set.program none after cause.Size)) (ends w after cause.Size)
+
+    bounds_next : (box : BoxName) (i : ℤ) → N w (bound_next set.program after box i) (bounds set w Stop go box i)
+    bounds_next box (pos (suc n)) = by w.deeds
+      where
+        by : (ds : List Deed) → IsActed set ds w.acts w.task (next.Bounds box (suc n) after)
+            (elim ds [ [] ↦ Stop (Wants (action.Bounds box (suc n)) w) | d ∷ rest ↦ Run m p l s x b (record (counted w) { deeds = rest; acts = Bound box (suc n) ∷ w.acts }) ])
+        by [] = (w, refl, (refl, refl))
+        by (d ∷ rest) = (refl, refl, refl, refl)
+    bounds_next box (pos zero) = no_bound
+    bounds_next box (negsuc n) = no_bound
 
     starts_next : (n : ℕ) (o : Option (List Token)) → N w (start_next after n o) (starts set w Stop go n o)
     starts_next n None = ends w after cause.Large
@@ -177,6 +217,8 @@ module _ (set : Setting) (none : NoTables set.program) where
     natives_next native.Execute (Ref n ∷ []) = (refl, refl, refl, refl)
     natives_next native.Start (Ref n ∷ []) = starts_next n (shape_of set.program w.heap n)
     natives_next native.Put (Box box ∷ message ∷ []) = messages box message
+    natives_next native.PutWait (Box box ∷ message ∷ []) = waits_next box message
+    natives_next native.Bound (Box box ∷ Int i ∷ []) = bounds_next box i
     natives_next native.Get (Box box ∷ []) = takes_next box
     natives_next native.Getnb (Box box ∷ []) = probes_next box
     natives_next native.Print (v ∷ []) = prints_next (printed v)

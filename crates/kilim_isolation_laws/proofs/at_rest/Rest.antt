@@ -16,7 +16,7 @@ use Rattle.kilim_run_model.specs.Turn.{Moved, quiet, acted, lone_of, with_lone, 
 use Rattle.kilim_run_model.specs.Runs.{unless_acted, before_action, settled_from, settled, where_empty, where_full, if_waits, waits_at, is_at_rest, all_at_rest, waits_from, AtRest}
 use Rattle.kilim_run_model.proofs.Alone.{rests_still}
 use Rattle.kilim_lemmas.proofs.Lists.{set_other}
-use Rattle.kilim_isolation_laws.specs.at_rest.Laws.{OneRest}
+use Rattle.kilim_isolation_laws.specs.at_rest.Laws.{OneRest, StaysAt, is_going}
 use Rattle.kilim_isolation_laws.proofs.at_rest.Stays.{get_stays}
 
 -- ---- a move without an action changes one thread, and no mailbox
@@ -130,36 +130,79 @@ module _ (set : Setting) where
   parts_of zero j s t = refl
   parts_of (suc m) j s t = parts_by m j s t (moved set s t).act refl (parts_of m j (moved set s t).state t)
 
-  -- ---- who rests in the end rested right after it settled
+  -- ---- who rests in the end went no further when it settled
 
-  waits_there : (f a : State) (w : Waits) → f.mailboxes ≡ a.mailboxes → is_some (if_waits f (Some w)) ≡ true → is_some (if_waits a (Some w)) ≡ true
-  waits_there f a (wait.Take box) e rests = ap (λ (boxes : BoxName → Mailbox ℕ). is_some (where_empty (boxes box).queue box)) (sym e) ∙ rests
-  waits_there f a (wait.Put box) e rests = ap (λ (boxes : BoxName → Mailbox ℕ). is_some (where_full (boxes box) box)) (sym e) ∙ rests
+  no_going : (x : Next) (w : Waits) → get_at x ≡ Some w → is_going x ≡ false
+  no_going (Goes after) w e = absurd (cc)
+  no_going x w e = refl
 
-  rests_by : (f a : State) (t : ℕ) (th : Thread) (o : Option Waits) → get_at (next_move set t (lone_of f t th)) ≡ o → f.mailboxes ≡ a.mailboxes → is_some (if_waits f o) ≡ true →
-      is_some (if_waits a (get_at (next_move set t (lone_of a t th)))) ≡ true
-  rests_by f a t th None at same rests = absurd (cc)
-  rests_by f a t th (Some w) at same rests = ap (λ (o : Option Waits). is_some (if_waits a o)) (get_stays set t (lone_of f t th) (lone_of a t th) w refl at) ∙ waits_there f a w same rests
+  stays_still : (w : Waits) (x : Next) → StaysAt w x → is_going x ≡ false
+  stays_still (wait.Take box) x s = no_going x (wait.Take box) s
+  stays_still (wait.Put box) x s = s
 
-  rests_back : (f a : State) (t : ℕ) (th : Thread) → f.mailboxes ≡ a.mailboxes → is_at_rest set f t th ≡ true → is_at_rest set a t th ≡ true
-  rests_back f a t (Ended cause) same rests = refl
-  rests_back f a t (Alive frames done boxes) same rests = rests_by f a t (Alive frames done boxes) (get_at (next_move set t (lone_of f t (Alive frames done boxes)))) refl same rests
+  rests_by : (f a : State) (t : ℕ) (th : Thread) (o : Option Waits) → get_at (next_move set t (lone_of f t th)) ≡ o → is_some (if_waits f o) ≡ true → is_going (next_move set t (lone_of a t th)) ≡ false
+  rests_by f a t th None at rests = absurd (cc)
+  rests_by f a t th (Some w) at rests = stays_still w (next_move set t (lone_of a t th)) (get_stays set t (lone_of f t th) (lone_of a t th) w refl at)
+
+  rests_back : (f a : State) (t : ℕ) (th : Thread) → is_at_rest set f t th ≡ true → is_going (next_move set t (lone_of a t th)) ≡ false
+  unfolding next_move
+  rests_back f a t (Ended cause) rests = refl
+  rests_back f a t (Alive frames done boxes) rests = rests_by f a t (Alive frames done boxes) (get_at (next_move set t (lone_of f t (Alive frames done boxes)))) refl rests
+
+  -- it doesn't move, or it acts
+  abbrev Halts : State → Moved → Type 0
+  Halts a m = (m ≡ quiet a) ⊎ ((act : Act) × (m.act ≡ Some act))
+
+  either_halts : (a : State) (b : Bool) (x y : Moved) → Halts a x → Halts a y → Halts a (cond b x y)
+  either_halts a true x y p q = p
+  either_halts a false x y p q = q
+
+  begun_halts : (a : State) (shape : List Token) (after : State) (o : Option (List Activation)) → Halts a (starts_with a shape after o)
+  begun_halts a shape after None = inl refl
+  begun_halts a shape after (Some frames) = inr (_, refl)
+
+  gets_halts : (a : State) (t : ℕ) (box : BoxName) (after : Lone) (queue : List (ℕ × ℕ)) → Halts a (gets a t box after queue)
+  gets_halts a t box after [] = inl refl
+  gets_halts a t box after (first ∷ rest) = inr (_, refl)
+
+  probes_halt : (a : State) (t : ℕ) (box : BoxName) (after : Lone) (queue : List (ℕ × ℕ)) → Halts a (probes a t box after queue)
+  probes_halt a t box after [] = inr (_, refl)
+  probes_halt a t box after (first ∷ rest) = inr (_, refl)
+
+  next_halts : (a : State) (t : ℕ) (x : Next) → is_going x ≡ false → Halts a (moved_by set a t x)
+  next_halts a t (Goes after) e = absurd (cc)
+  next_halts a t (Puts box root shape after) e = either_halts a (is_full (a.mailboxes box)) (acted (with_lone a t (ended after cause.Full)) (End cause.Full)) (puts (with_lone a t after) box root shape) (inr (_, refl)) (inr (_, refl))
+  next_halts a t (PutWaits box root shape after) e = either_halts a (is_full (a.mailboxes box)) (quiet a) (puts (with_lone a t after) box root shape) (inl refl) (inr (_, refl))
+  next_halts a t (Bounds box most after) e = inr (_, refl)
+  next_halts a t (Gets box after) e = gets_halts a t box after (a.mailboxes box).queue
+  next_halts a t (Probes box after) e = probes_halt a t box after (a.mailboxes box).queue
+  next_halts a t (Starts root shape after) e =
+      either_halts a (nat_lt (length a.threads) task_limit) (starts_with a shape (with_lone a t after) (execute_frames set.program after.heap root)) (acted (with_lone a t (ended after cause.Tasks)) (End cause.Tasks))
+      (begun_halts a shape (with_lone a t after) (execute_frames set.program after.heap root)) (inr (_, refl))
+  next_halts a t (Prints token after) e = inr (_, refl)
+  next_halts a t (Ends cause after) e = inr (_, refl)
+  next_halts a t Stands e = inl refl
+
+  halts_before : (j : ℕ) (a : State) (t : ℕ) → Halts a (moved set a t) → before_action set j a t ≡ a
+  halts_before j a t (inl e) = stay_before j a t e
+  halts_before j a t (inr e) = acts_before j a t e.0 e.1
 
   abbrev AllRest : State → Type 0
   AllRest f = (u : ℕ) (th : Thread) → slice_get f.threads u ≡ Some th → is_at_rest set f u th ≡ true
 
-  still_by : (f a : State) (t : ℕ) (o : Option Thread) → slice_get a.threads t ≡ o → slice_get f.threads t ≡ slice_get a.threads t → f.mailboxes ≡ a.mailboxes → AllRest f → moved set a t ≡ quiet a
+  still_by : (f a : State) (t : ℕ) (o : Option Thread) → slice_get a.threads t ≡ o → slice_get f.threads t ≡ slice_get a.threads t → AllRest f → Halts a (moved set a t)
   unfolding moved
-  still_by f a t None at there same rest = ap (thread_moved set a t) at
-  still_by f a t (Some th) at there same rest = rests_still set a t th at (rests_back f a t th same (rest t th (there ∙ at)))
+  still_by f a t None at there rest = inl (ap (thread_moved set a t) at)
+  still_by f a t (Some th) at there rest =
+      subst (λ (m : Moved). Halts a m) (sym (ap (thread_moved set a t) at)) (next_halts a t (next_move set t (lone_of a t th)) (rests_back f a t th (rest t th (there ∙ at))))
 
   more_settles : (m j : ℕ) (list : List Thread) (s : State) (t : ℕ) → AllRest (settled_from set m s t list) → settled_from set (more m j) s t list ≡ settled_from set m s t list
   more_settles m j [] s t rest = refl
   more_settles m j (thread ∷ threads) s t rest =
       let a = before_action set m s t in
       let f = settled_from set m a (t + 1) threads in
-      let still : moved set a t ≡ quiet a = still_by f a t (slice_get a.threads t) refl (settled_others m a (t + 1) threads t (omega arith)) (settled_boxes m a (t + 1) threads) rest in
-      let here : before_action set (more m j) s t ≡ a = parts_of m j s t ∙ stay_before j a t still in
+      let still : Halts a (moved set a t) = still_by f a t (slice_get a.threads t) refl (settled_others m a (t + 1) threads t (omega arith)) rest in
+      let here : before_action set (more m j) s t ≡ a = parts_of m j s t ∙ halts_before j a t still in
       ap (λ (x : State). settled_from set (more m j) x (t + 1) threads) here ∙ more_settles m j threads a (t + 1) rest
 
   -- ---- one rest

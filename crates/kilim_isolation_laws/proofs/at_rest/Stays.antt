@@ -1,6 +1,6 @@
 -- A thread that stands where it may have to wait stands there on every heap.
 use Rattle.std.proofs.Common.{◌≡◌, ℕ, zero, suc, ◌+◌, Bool, true, false, cond, List, [], ◌∷◌, Option, Some, None, length, refl, sym, ap, subst, ◌∙◌}
-use Rattle.std.specs.Prelude.{ℤ, nat_lt, nat_le}
+use Rattle.std.specs.Prelude.{ℤ, pos, nat_lt, nat_le}
 use Rattle.kilim_run_state.specs.declared.cause.EndCause.{EndCause}
 use Rattle.kilim_run_state.specs.declared.cause.EndCause.TheVariants as cause
 use Rattle.std.proofs.lemmas.Option.{none-some}
@@ -20,12 +20,12 @@ use Rattle.kilim_run_machine.specs.Moves.{Move, Change, frame_limit, push_value,
 use Rattle.kilim_run_machine.specs.Moves as move
 use Rattle.kilim_run_state.specs.Shapes.{shape_of}
 use Rattle.kilim_run_model.specs.State.{Setting, Thread, Alive, Ended, begun_on}
-use Rattle.kilim_run_model.specs.Lone.{Lone, Next, Goes, Gets, box_limit, went, over, raised, put_next, message_next, start_next, print_next, printed, arg_next, arg_at, native_next, asks_next, begins_next, finish_next, on_heap, next_by, frames_next, thread_next, next_move, get_at}
+use Rattle.kilim_run_model.specs.Lone.{Lone, Next, Goes, Gets, box_limit, went, over, raised, put_next, message_next, put_wait_next, wait_next, bound_next, start_next, print_next, printed, arg_next, arg_at, native_next, asks_next, begins_next, finish_next, on_heap, next_by, frames_next, thread_next, next_move, get_at}
 use Rattle.kilim_run_model.specs.declared.waits.Waits.{Waits}
 use Rattle.kilim_run_model.specs.declared.waits.Waits.TheVariants as wait
 use Rattle.kilim_run_model.proofs.Raised.{raised_has, raises_has, throws_has}
 use Rattle.kilim_run_machine.specs.Raising.{thrown}
-use Rattle.kilim_isolation_laws.specs.at_rest.Laws.{GetStays}
+use Rattle.kilim_isolation_laws.specs.at_rest.Laws.{GetStays, StaysAt, is_going}
 use Rattle.kilim_isolation_laws.proofs.at_rest.Asked.{SameAsk, AsksSame, effect_same}
 
 -- ---- moves
@@ -66,12 +66,12 @@ moves_same p top below h k m box vs frames h2 e = by_same p top below k (effect_
 
 -- ---- what is next
 
--- it waits at the `get` of a mailbox
+-- it waits at the `get` or the put of a mailbox, and so it does on another heap
 record GetsAt (w : Waits) (nat : Native) (args : List Value) : Type 0 where
   box : BoxName
-  at : w ≡ wait.Take box
-  is_get : nat ≡ native.Get
-  of_box : args ≡ Box box ∷ []
+  behind : List Value
+  of_box : args ≡ Box box ∷ behind
+  stays : (set : Setting) (other : Lone) → StaysAt w (native_next set other nat args)
 
 no_put : (after : Lone) (b : BoxName) (n : ℕ) (shape : Option (List Token)) (w : Waits) → get_at (put_next after b n shape) ≡ Some w → ⊥
 no_put after b n None w e = absurd (cc)
@@ -85,6 +85,18 @@ no_message p after b Null w e = no_raise p after cause.Null w e
 no_message p after b (Ref n) w e = no_put after b n (shape_of p after.heap n) w e
 no_message p after b v w e = absurd (cc)
 
+put_wait_at : (after : Lone) (b : BoxName) (n : ℕ) (shape : Option (List Token)) (w : Waits) → get_at (put_wait_next after b n shape) ≡ Some w → wait.Put b ≡ w
+put_wait_at after b n None w e = absurd (cc)
+put_wait_at after b n (Some shape) w e = cc
+
+put_wait_still : (after : Lone) (b : BoxName) (n : ℕ) (shape : Option (List Token)) → is_going (put_wait_next after b n shape) ≡ false
+put_wait_still after b n None = refl
+put_wait_still after b n (Some shape) = refl
+
+no_bound : (p : Program) (after : Lone) (b : BoxName) (i : ℤ) (w : Waits) → get_at (bound_next p after b i) ≡ Some w → ⊥
+no_bound p after b (pos (suc i)) w e = absurd (cc)
+no_bound p after b i w e = no_raise p after cause.Size w e
+
 no_start : (after : Lone) (n : ℕ) (shape : Option (List Token)) (w : Waits) → get_at (start_next after n shape) ≡ Some w → ⊥
 no_start after n None w e = absurd (cc)
 no_start after n (Some shape) w e = absurd (cc)
@@ -97,11 +109,24 @@ no_arg : (p : Program) (after : Lone) (x : Option ℤ) (w : Waits) → get_at (a
 no_arg p after None w e = no_raise p after cause.Index w e
 no_arg p after (Some x) w e = absurd (cc)
 
+wait_gets : (set : Setting) (after : Lone) (b : BoxName) (message : Value) (w : Waits) → get_at (wait_next set.program after b message) ≡ Some w → GetsAt w native.PutWait (Box b ∷ message ∷ [])
+wait_gets set after b Null w e = absurd (no_raise set.program after cause.Null w e)
+wait_gets set after b (Ref n) w e = record {
+  box = b;
+  behind = Ref n ∷ [];
+  of_box = refl;
+  stays = λ s other.
+      subst (λ (z : Waits). StaysAt z (put_wait_next other b n (shape_of s.program other.heap n))) (put_wait_at after b n (shape_of set.program after.heap n) w e) (put_wait_still other b n (shape_of s.program other.heap n));
+}
+wait_gets set after b v w e = absurd (cc)
+
 native_gets : (set : Setting) (after : Lone) (nat : Native) (args : List Value) (w : Waits) → get_at (native_next set after nat args) ≡ Some w → GetsAt w nat args
 native_gets set after native.Execute (Ref n ∷ []) w e = absurd (cc)
 native_gets set after native.Start (Ref n ∷ []) w e = absurd (no_start after n (shape_of set.program after.heap n) w e)
 native_gets set after native.Put (Box b ∷ message ∷ []) w e = absurd (no_message set.program after b message w e)
-native_gets set after native.Get (Box b ∷ []) w e = record { box = b; at = cc; is_get = refl; of_box = refl }
+native_gets set after native.PutWait (Box b ∷ message ∷ []) w e = wait_gets set after b message w e
+native_gets set after native.Bound (Box b ∷ Int i ∷ []) w e = absurd (no_bound set.program after b i w e)
+native_gets set after native.Get (Box b ∷ []) w e = record { box = b; behind = []; of_box = refl; stays = λ s other. let same : wait.Take b ≡ w = cc in subst (λ (z : Waits). StaysAt z (Gets b other)) same refl }
 native_gets set after native.Getnb (Box b ∷ []) w e = absurd (cc)
 native_gets set after native.Print (v ∷ []) w e = absurd (no_print after (printed v) w e)
 native_gets set after native.Yield [] w e = absurd (cc)
@@ -122,47 +147,42 @@ no_open : (b : Bool) (x y : Lone) (w : Waits) → get_at (cond b (Goes x) (over 
 no_open true x y w e = absurd (cc)
 no_open false x y w e = absurd (cc)
 
-asked_get : (set : Setting) (x y : Lone) (args : List Value) (nat : Option Native) (w : Waits) → get_at (asks_next set x args nat) ≡ Some w → (box : BoxName) × (args ≡ Box box ∷ []) × (get_at (asks_next set y args nat) ≡ Some w)
+asked_get : (set : Setting) (x y : Lone) (args : List Value) (nat : Option Native) (w : Waits) → get_at (asks_next set x args nat) ≡ Some w → (box : BoxName) × (behind : List Value) × (args ≡ Box box ∷ behind) × StaysAt w (asks_next set y args nat)
 asked_get set x y args None w e = absurd (cc)
-asked_get set x y args (Some nat) w e =
-    let found = native_gets set x nat args w e in (
-      found.box,
-      found.of_box,
-      ap (λ (n : Native). get_at (native_next set y n args)) found.is_get ∙ (ap (λ (vs : List Value). get_at (native_next set y native.Get vs)) found.of_box ∙ ap (λ (z : Waits). Some z) (sym found.at)),
-    )
+asked_get set x y args (Some nat) w e = let found = native_gets set x nat args w e in (found.box, found.behind, found.of_box, found.stays set y)
 
 module _ (set : Setting) (t : ℕ) (a b : Lone) (done boxes : ℕ) where
   move_gets : (top other : Activation) (below others : List Activation) (ma mb : Move) (w : Waits) →
       ((box : BoxName) (m : MethodId) (vs : List Value) (frames : List Activation) (heap : Objects) → ma ≡ move.Asks m (Box box ∷ vs) frames heap → mb ≡ move.Asks m (Box box ∷ vs) frames b.heap) →
-      get_at (next_by set t a done boxes top below ma) ≡ Some w → get_at (next_by set t b done boxes other others mb) ≡ Some w
+      get_at (next_by set t a done boxes top below ma) ≡ Some w → StaysAt w (next_by set t b done boxes other others mb)
   move_gets top other below others (move.Runs change frames heap) mb w same e = absurd (cc)
   move_gets top other below others (move.Makes object frames heap) mb w same e = absurd (cc)
   move_gets top other below others (move.Opens frames heap) mb w same e = absurd (no_open (nat_lt boxes box_limit) (went (on_heap a heap) (push_value (Box (record { task = t; number = boxes })) frames) done (boxes + 1)) (on_heap a heap) w e)
   move_gets top other below others (move.Asks m args frames heap) mb w same e =
       let found = asked_get set (went (on_heap a heap) frames done boxes) (went (on_heap b b.heap) frames done boxes) args (native_of set.program m) w e in
-      let there = same found.0 m [] frames heap (ap (λ (vs : List Value). move.Asks m vs frames heap) found.1) in
-      ap (λ (x : Move). get_at (next_by set t b done boxes other others x)) there
-      ∙ (ap (λ (vs : List Value). get_at (asks_next set (went (on_heap b b.heap) frames done boxes) vs (native_of set.program m))) (sym found.1) ∙ found.2)
+      let there = same found.0 m found.1 frames heap (ap (λ (vs : List Value). move.Asks m vs frames heap) found.2) in
+      subst (λ (x : Move). StaysAt w (next_by set t b done boxes other others x)) (sym there)
+      (subst (λ (vs : List Value). StaysAt w (asks_next set (went (on_heap b b.heap) frames done boxes) vs (native_of set.program m))) found.2 found.3)
   move_gets top other below others (move.Returns heap) mb w same e = absurd (no_finish set (on_heap a heap) done boxes a.kept w e)
   move_gets top other below others (move.Raises cause) mb w same e = absurd (raises_has (λ (x : Next). get_at x ≡ Some w → ⊥) a cause (λ d. absurd (none-some _ d)) set.program done boxes top below (λ object f fs d. absurd (none-some _ d)) e)
   move_gets top other below others (move.Throws object class cause) mb w same e = absurd (throws_has (λ (x : Next). get_at x ≡ Some w → ⊥) a cause (λ d. absurd (none-some _ d)) (done + 1) boxes (thrown set.program class (Ref object) top below) (λ f fs d. absurd (none-some _ d)) e)
   move_gets top other below others (move.Ends cause) mb w same e = absurd (cc)
   move_gets top other below others move.Stuck mb w same e = absurd (cc)
 
-  frames_get : (frames : List Activation) (w : Waits) → get_at (frames_next set t a frames done boxes) ≡ Some w → get_at (frames_next set t b frames done boxes) ≡ Some w
+  frames_get : (frames : List Activation) (w : Waits) → get_at (frames_next set t a frames done boxes) ≡ Some w → StaysAt w (frames_next set t b frames done boxes)
   frames_get [] w e = absurd (cc)
   frames_get (top ∷ below) w e =
       move_gets top top below below (moves set.program top below a.heap) (moves set.program top below b.heap) w (λ box m vs frames heap is. moves_same set.program top below a.heap b.heap m box vs frames heap is) e
 
   spent_get : (spent : Bool) (frames : List Activation) (w : Waits) → get_at (cond spent (over a cause.Spent) (frames_next set t a frames done boxes)) ≡ Some w →
-      get_at (cond spent (over b cause.Spent) (frames_next set t b frames done boxes)) ≡ Some w
+      StaysAt w (cond spent (over b cause.Spent) (frames_next set t b frames done boxes))
   spent_get true frames w e = absurd (cc)
   spent_get false frames w e = frames_get frames w e
 
-thread_gets : (set : Setting) (t : ℕ) (a b : Lone) (th : Thread) (w : Waits) → get_at (thread_next set t a th) ≡ Some w → get_at (thread_next set t b th) ≡ Some w
+thread_gets : (set : Setting) (t : ℕ) (a b : Lone) (th : Thread) (w : Waits) → get_at (thread_next set t a th) ≡ Some w → StaysAt w (thread_next set t b th)
 thread_gets set t a b (Ended cause) w e = absurd (cc)
 thread_gets set t a b (Alive frames done boxes) w e = spent_get set t a b done boxes (nat_le set.limits.steps done) frames w e
 
 pub get_stays : GetStays
 unfolding next_move
-get_stays set t a b w same e = ap (λ (th : Thread). get_at (thread_next set t b th)) (sym same) ∙ thread_gets set t a b a.thread w e
+get_stays set t a b w same e = subst (λ (th : Thread). StaysAt w (thread_next set t b th)) same (thread_gets set t a b a.thread w e)

@@ -100,9 +100,8 @@ module _ (set : Setting) (wanted : Wanted) (listed : Listed) (of : Classes) (is 
     whole : (q : ℕ) → Gives p (parameters_of typed.callee) args q → (trees p h).has q ≡ true
     whole q g = subst (λ (x : Objects). (trees p x).has q ≡ true) same (asks.whole q (subst (λ (m : Method). Gives p (parameters_of m) args q) (sym one_callee) g)).0
 
-    put_gives : (box : BoxName) (q : ℕ) → args ≡ Box box ∷ Ref q ∷ [] → native_of p id ≡ Some native.Put → IsGivenTree p OfMessage h q
-    put_gives box q e known =
-        let put : PutIs n typed.callee = native_takes p is.keeps is.form id typed.callee native.Put typed.there typed.built_in known in
+    put_gives : (box : BoxName) (q : ℕ) → args ≡ Box box ∷ Ref q ∷ [] → PutIs n typed.callee → IsGivenTree p OfMessage h q
+    put_gives box q e put =
         let types : have_types p typed.callee of (native_types typed.callee) (Box box ∷ Ref q ∷ []) ≡ true = subst (λ (vs : List Value). have_types p typed.callee of (native_types typed.callee) vs ≡ true) e typed.arguments in
         let both : have_types p typed.callee of (class_vtype typed.callee.owner ∷ vtype (class_type (n + 2)) ∷ []) (Box box ∷ Ref q ∷ []) ≡ true =
         subst (λ (ts : List VType). have_types p typed.callee of ts (Box box ∷ Ref q ∷ []) ≡ true) (instance_types typed.callee put.instance ∙ ap (λ (tys : List Ty). class_vtype typed.callee.owner ∷ map vtype tys) put.params) types in
@@ -139,7 +138,8 @@ module _ (set : Setting) (wanted : Wanted) (listed : Listed) (of : Classes) (is 
             (inl (ap (λ (k : Kind). cond (is_tree_kind k) (Some qualifier.Free) None) (task_tree p is.keeps is.form), refl, tt))
 
     asked_gives : (o : Option Native) → native_of p id ≡ o → (own : List Value) → args ≡ own → (root : Root) (q : ℕ) → given o own ≡ Some (root, q) → IsGivenTree p root h q
-    asked_gives (Some native.Put) known (Box box ∷ Ref m ∷ []) e root q g = let w = some_same (OfMessage, m) (root, q) g in subst (λ (x : Root × ℕ). IsGivenTree p x.0 h x.1) w (put_gives box m e known)
+    asked_gives (Some native.Put) known (Box box ∷ Ref m ∷ []) e root q g = let w = some_same (OfMessage, m) (root, q) g in subst (λ (x : Root × ℕ). IsGivenTree p x.0 h x.1) w (put_gives box m e (native_takes p is.keeps is.form id typed.callee native.Put typed.there typed.built_in known))
+    asked_gives (Some native.PutWait) known (Box box ∷ Ref m ∷ []) e root q g = let w = some_same (OfMessage, m) (root, q) g in subst (λ (x : Root × ℕ). IsGivenTree p x.0 h x.1) w (put_gives box m e (native_takes p is.keeps is.form id typed.callee native.PutWait typed.there typed.built_in known))
     asked_gives (Some native.Start) known (Ref m ∷ []) e root q g = let w = some_same (OfTask, m) (root, q) g in subst (λ (x : Root × ℕ). IsGivenTree p x.0 h x.1) w (start_gives m e known)
     asked_gives _ known _ e root q g = absurd (none_given (root, q) g)
 

@@ -1,6 +1,6 @@
 -- What a put and a start take.
 use Rattle.std.proofs.Common.{◌≡◌, ℕ, ◌+◌, true, false, List, [], ◌∷◌, length, Option, Some, None, refl, sym, ap, subst, ◌∙◌}
-use Rattle.std.specs.Prelude.{codes, if◌then◌else◌}
+use Rattle.std.specs.Prelude.{codes}
 use Rattle.std.specs.List.{AllByRecursion}
 use Rattle.kilim_program.specs.declared.class.Form.TheVariants.{Plain}
 use Rattle.kilim_program.specs.declared.class.Method.{Method}
@@ -10,7 +10,7 @@ use Rattle.kilim_program.specs.BuiltIn.{built_in_methods_in, class_id, class_typ
 use Rattle.kilim_program.specs.Keeps.{Keeps}
 use Rattle.kilim_program.specs.Names.{◌>>=◌, class_name, method_at}
 use Rattle.kilim_program.specs.Program.{Program}
-use Rattle.kilim_run_machine.specs.Natives.{Native, natives, native_named, native_method, native_of}
+use Rattle.kilim_run_machine.specs.Natives.{Native, native_in, native_method, native_of}
 use Rattle.kilim_run_machine.specs.Natives as native
 use Rattle.kilim_type_sound.proofs.BuiltInMembers.{NamedAt, named_at}
 use Rattle.kilim_isolation_laws.proofs.typed_threads.fine.Natives.{built_in_one, first, object_name, task_name}
@@ -30,11 +30,12 @@ pub record StartIs (n : ℕ) (m : Method) : Type 0 where
 
 abbrev pub Takes : ℕ → Native → Method → Type 0
 Takes n native.Put m = PutIs n m
+Takes n native.PutWait m = PutIs n m
 Takes n native.Start m = StartIs n m
 Takes n k m = Unit {0}
 
 abbrev by_name : Method → List ℕ → Option Native
-by_name m name = if m.built_in then native_named natives name m.name else None
+by_name m name = native_in name m
 
 TakesAs : Program → ℕ → Method → Type 0
 TakesAs p n m = (k : Native) → native_method p m ≡ Some k → Takes n k m

@@ -1,6 +1,6 @@
 -- A thread that fits goes on fitting: its moves, and what others decide.
 use Rattle.std.proofs.Common.{◌≡◌, ℕ, zero, suc, ◌+◌, ◌≤◌, ℤ, Bool, true, false, cond, eqb, List, [], ◌∷◌, length, Option, Some, None, refl, sym, ap, subst, ◌∙◌, arith}
-use Rattle.std.specs.Prelude.{◌||◌, nat_le, nat_lt, codes}
+use Rattle.std.specs.Prelude.{◌||◌, pos, negsuc, nat_le, nat_lt, codes}
 use Rattle.std.specs.List.{list_any}
 use Rattle.std.specs.Str.{bytes_eq}
 use Rattle.std.proofs.lemmas.Bool.{and_parts, and_from, eqb-true, or_left}
@@ -36,7 +36,7 @@ use Rattle.kilim_run_state.specs.Trees.{OfMessage, built, is_root, tree_names, w
 use Rattle.kilim_run_journal.specs.declared.entry.Act.{Act}
 use Rattle.kilim_run_journal.specs.declared.entry.Act.TheVariants.{Put, Take, Empty, Start, Print, End, Bound}
 use Rattle.kilim_run_model.specs.State.{Setting, Thread, Alive, Ended, begun_on, is_fit}
-use Rattle.kilim_run_model.specs.Lone.{Lone, Next, Goes, Puts, PutWaits, Bounds, Gets, Probes, Starts, Prints, Ends, Stands, arg_at, arg_next, asks_next, begins_next, box_limit, ended, finish_next, frames_next, message_next, native_next, next_by, next_move, on_heap, opens_next, over, print_next, printed, pushed, put_next, start_next, thread_next, went}
+use Rattle.kilim_run_model.specs.Lone.{Lone, Next, Goes, Puts, PutWaits, Bounds, Gets, Probes, Starts, Prints, Ends, Stands, arg_at, arg_next, asks_next, begins_next, box_limit, ended, finish_next, frames_next, message_next, native_next, next_by, next_move, on_heap, opens_next, over, print_next, printed, pushed, put_next, put_wait_next, bound_next, start_next, thread_next, wait_next, went}
 use Rattle.kilim_run_model.proofs.Raised.{raised_over, raises_over, throws_over}
 use Rattle.kilim_run_model.specs.Course.{Done, done_by, fills_deed, probes_deed, puts_deed, received, starts_deed, takes_deed, tree_came, tree_left}
 use Rattle.kilim_run_model.specs.declared.deed.Deed.{Deed}
@@ -183,6 +183,20 @@ module _ (set : Setting) (typing : Typing) (live : Wanted) (of : Classes) (is : 
         message_next_fits box (Ref root) e = put_fits box root (shape_of p h root) e
         message_next_fits box _ e = tt
 
+        put_wait_fits : (box : BoxName) (root : ℕ) (o : Option (List Token)) → On of behind → NextFits (put_wait_next behind box root o)
+        put_wait_fits box root None e = over_fits behind cause.Large asks.heap fresh
+        put_wait_fits box root (Some shape) e = e
+
+        wait_next_fits : (box : BoxName) (v : Value) → On of behind → NextFits (wait_next p behind box v)
+        wait_next_fits box Null e = subst NextFits (sym (raised_over p is.keeps.handlers behind cause.Null)) (over_fits behind cause.Null asks.heap fresh)
+        wait_next_fits box (Ref root) e = put_wait_fits box root (shape_of p h root) e
+        wait_next_fits box _ e = tt
+
+        bound_next_fits : (box : BoxName) (i : ℤ) → On of behind → NextFits (bound_next p behind box i)
+        bound_next_fits box (pos (suc i)) e = e
+        bound_next_fits box (pos zero) e = subst NextFits (sym (raised_over p is.keeps.handlers behind cause.Size)) (over_fits behind cause.Size asks.heap fresh)
+        bound_next_fits box (negsuc i) e = subst NextFits (sym (raised_over p is.keeps.handlers behind cause.Size)) (over_fits behind cause.Size asks.heap fresh)
+
         start_fits : (root : ℕ) (o : Option (List Token)) → On of behind → NextFits (start_next behind root o)
         start_fits root None e = over_fits behind cause.Large asks.heap fresh
         start_fits root (Some shape) e = e
@@ -199,6 +213,8 @@ module _ (set : Setting) (typing : Typing) (live : Wanted) (of : Classes) (is : 
       native_fits native.Execute (Ref q ∷ []) known = same_further behind (without_result native.Execute known refl)
       native_fits native.Start (Ref q ∷ []) known = start_fits native.Start known q (shape_of p h q) (without_result native.Start known refl)
       native_fits native.Put (Box box ∷ v ∷ []) known = message_next_fits native.Put known box v (without_result native.Put known refl)
+      native_fits native.PutWait (Box box ∷ v ∷ []) known = wait_next_fits native.PutWait known box v (without_result native.PutWait known refl)
+      native_fits native.Bound (Box box ∷ Int i ∷ []) known = bound_next_fits native.Bound known box i (without_result native.Bound known refl)
       native_fits native.Get (Box box ∷ []) known = with_message native.Get known refl
       native_fits native.Getnb (Box box ∷ []) known = with_message native.Getnb known refl
       native_fits native.Print (v ∷ []) known = print_fits native.Print known (printed v) (without_result native.Print known refl)

@@ -1,6 +1,6 @@
 -- What a thread does next leaves each name that there was in the heap.
 use Rattle.std.proofs.Common.{◌≡◌, ℕ, suc, ◌+◌, ◌<◌, ◌≤◌, ℤ, Bool, true, false, cond, List, [], ◌∷◌, Option, Some, None, ◌⊎◌, inl, inr, sym, subst, ◌∙◌, arith}
-use Rattle.std.specs.Prelude.{nat_le, nat_lt}
+use Rattle.std.specs.Prelude.{pos, negsuc, nat_le, nat_lt}
 use Rattle.std.specs.FinMap.{get, insert}
 use Rattle.std.proofs.lemmas.Bool.Decides.{eqb_tells}
 use Rattle.kilim_lemmas.proofs.Maps.{put_there, put_other}
@@ -17,7 +17,7 @@ use Rattle.kilim_run_machine.specs.Natives.{Native, native_of}
 use Rattle.kilim_run_machine.specs.Natives as native
 use Rattle.kilim_run_state.specs.Shapes.{shape_of}
 use Rattle.kilim_run_model.specs.State.{Setting, Thread, Alive, Ended, begun_on}
-use Rattle.kilim_run_model.specs.Lone.{Lone, Next, Goes, Puts, PutWaits, Bounds, Gets, Probes, Starts, Prints, Ends, Stands, arg_at, arg_next, asks_next, begins_next, box_limit, finish_next, frames_next, message_next, native_next, next_by, next_move, on_heap, print_next, printed, put_next, raised, start_next, thread_next, went}
+use Rattle.kilim_run_model.specs.Lone.{Lone, Next, Goes, Puts, PutWaits, Bounds, Gets, Probes, Starts, Prints, Ends, Stands, arg_at, arg_next, asks_next, begins_next, box_limit, finish_next, frames_next, message_next, native_next, next_by, next_move, on_heap, print_next, printed, put_next, put_wait_next, bound_next, raised, start_next, thread_next, wait_next, went}
 use Rattle.kilim_run_model.proofs.Raised.{raised_has, raises_has, throws_has}
 use Rattle.kilim_run_machine.specs.Raising.{thrown}
 use Rattle.kilim_run_state.specs.declared.cause.EndCause.{EndCause}
@@ -72,6 +72,20 @@ module _ (set : Setting) where
   message_full after box (Ref root) f = put_full after box root (shape_of set.program after.heap root) f
   message_full after box _ f = tt
 
+  put_wait_full : (after : Lone) (box : BoxName) (root : ℕ) (o : Option (List Token)) → FullL after → NextFull (put_wait_next after box root o)
+  put_wait_full after box root None f = f
+  put_wait_full after box root (Some shape) f = f
+
+  wait_full : (after : Lone) (box : BoxName) (v : Value) → FullL after → NextFull (wait_next set.program after box v)
+  wait_full after box Null f = raised_full after cause.Null f
+  wait_full after box (Ref root) f = put_wait_full after box root (shape_of set.program after.heap root) f
+  wait_full after box _ f = tt
+
+  bound_full : (after : Lone) (box : BoxName) (i : ℤ) → FullL after → NextFull (bound_next set.program after box i)
+  bound_full after box (pos (suc i)) f = f
+  bound_full after box (pos ℕ.zero) f = raised_full after cause.Size f
+  bound_full after box (negsuc i) f = raised_full after cause.Size f
+
   start_full : (after : Lone) (root : ℕ) (o : Option (List Token)) → FullL after → NextFull (start_next after root o)
   start_full after root None f = f
   start_full after root (Some shape) f = f
@@ -88,6 +102,8 @@ module _ (set : Setting) where
   native_full after native.Execute (Ref q ∷ []) f = f
   native_full after native.Start (Ref q ∷ []) f = start_full after q (shape_of set.program after.heap q) f
   native_full after native.Put (Box box ∷ v ∷ []) f = message_full after box v f
+  native_full after native.PutWait (Box box ∷ v ∷ []) f = wait_full after box v f
+  native_full after native.Bound (Box box ∷ Int i ∷ []) f = bound_full after box i f
   native_full after native.Get (Box box ∷ []) f = f
   native_full after native.Getnb (Box box ∷ []) f = f
   native_full after native.Print (v ∷ []) f = print_full after (printed v) f

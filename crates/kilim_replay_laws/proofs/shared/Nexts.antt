@@ -1,6 +1,6 @@
 -- What a thread that fits does next, on any heap that has what its stack names.
 use Rattle.std.proofs.Common.{◌≡◌, ℕ, ◌+◌, ◌≤◌, ℤ, Bool, true, false, cond, List, [], ◌∷◌, Option, Some, None, refl, sym, ap, subst, ◌∙◌, arith}
-use Rattle.std.specs.Prelude.{nat_le, nat_lt}
+use Rattle.std.specs.Prelude.{suc, zero, pos, negsuc, nat_le, nat_lt}
 use Rattle.std.proofs.Common.{◌++◌, map}
 use Rattle.kilim_program.specs.declared.verified.VType.{VType}
 use Rattle.kilim_program.specs.declared.verified.VType.TheVariants.{Object}
@@ -29,7 +29,7 @@ use Rattle.kilim_run_machine.specs.Natives.{Native, native_of}
 use Rattle.kilim_run_machine.specs.Natives as native
 use Rattle.kilim_run_state.specs.Shapes.{shape_of}
 use Rattle.kilim_run_model.specs.State.{Setting, Thread, Alive, Ended, begun_on, is_fit}
-use Rattle.kilim_run_model.specs.Lone.{Lone, Next, Goes, Puts, PutWaits, Bounds, Gets, Probes, Starts, Prints, Ends, Stands, arg_at, arg_next, asks_next, begins_next, box_limit, ended, finish_next, frames_next, message_next, native_next, next_by, next_move, on_heap, opens_next, over, print_next, printed, pushed, put_next, start_next, thread_next, went}
+use Rattle.kilim_run_model.specs.Lone.{Lone, Next, Goes, Puts, PutWaits, Bounds, Gets, Probes, Starts, Prints, Ends, Stands, arg_at, arg_next, asks_next, begins_next, box_limit, ended, finish_next, frames_next, message_next, native_next, next_by, next_move, on_heap, opens_next, over, print_next, printed, pushed, put_next, put_wait_next, bound_next, start_next, thread_next, wait_next, went}
 use Rattle.kilim_run_model.proofs.Raised.{raised_over, raises_over, throws_over}
 use Rattle.kilim_type_spec.specs.Step.{vtype}
 use Rattle.kilim_type_sound.specs.Fits.{Classes, Fits, HeapFits, Typing, Wanted, has_type, is_of}
@@ -41,7 +41,7 @@ use Rattle.kilim_type_sound.proofs.Theorem.{moves_fit}
 use Rattle.kilim_isolation_laws.specs.typed_threads.fine.Typed.{FitsAs, IsVerified, StackIsThere, TopIsThere, frames_of}
 use Rattle.kilim_isolation_laws.proofs.typed_threads.fine.Natives.{first, gives, native_gives}
 use Rattle.kilim_isolation_laws.specs.typed_threads.Typed.{Further}
-use Rattle.kilim_isolation_laws.proofs.states.Takers.{native_takes}
+use Rattle.kilim_isolation_laws.proofs.states.Takers.{PutIs, native_takes}
 use Rattle.kilim_isolation_laws.proofs.typed_threads.Came.{one_extends, one_fresh}
 use Rattle.kilim_isolation_laws.proofs.typed_threads.Executing.{execute_begins}
 
@@ -131,6 +131,20 @@ module _ (set : Setting) (typing : Typing) (live : Wanted) (of : Classes) (is : 
         message_next_fits box (Ref root) e typed = put_fits box root (shape_of p h root) e (typed root refl)
         message_next_fits box _ e typed = tt
 
+        put_wait_fits : (box : BoxName) (root : ℕ) (o : Option (List Token)) → On of behind → is_of p (of root) (class_type (n + 2)) ≡ true → NextFits (put_wait_next behind box root o)
+        put_wait_fits box root None e typed = over_fits behind cause.Large asks.heap fresh
+        put_wait_fits box root (Some shape) e typed = (e, typed)
+
+        wait_next_fits : (box : BoxName) (v : Value) → On of behind → ((root : ℕ) → v ≡ Ref root → is_of p (of root) (class_type (n + 2)) ≡ true) → NextFits (wait_next p behind box v)
+        wait_next_fits box Null e typed = subst NextFits (sym (raised_over p is.keeps.handlers behind cause.Null)) (over_fits behind cause.Null asks.heap fresh)
+        wait_next_fits box (Ref root) e typed = put_wait_fits box root (shape_of p h root) e (typed root refl)
+        wait_next_fits box _ e typed = tt
+
+        bound_next_fits : (box : BoxName) (i : ℤ) → On of behind → NextFits (bound_next p behind box i)
+        bound_next_fits box (pos (suc i)) e = e
+        bound_next_fits box (pos zero) e = subst NextFits (sym (raised_over p is.keeps.handlers behind cause.Size)) (over_fits behind cause.Size asks.heap fresh)
+        bound_next_fits box (negsuc i) e = subst NextFits (sym (raised_over p is.keeps.handlers behind cause.Size)) (over_fits behind cause.Size asks.heap fresh)
+
         start_fits : (root : ℕ) (o : Option (List Token)) → On of behind → is_of p (of root) (class_type (n + 4)) ≡ true → NextFits (start_next behind root o)
         start_fits root None e typed = over_fits behind cause.Large asks.heap fresh
         start_fits root (Some shape) e typed = (e, typed)
@@ -143,9 +157,8 @@ module _ (set : Setting) (typing : Typing) (live : Wanted) (of : Classes) (is : 
         arg_fits None e = subst NextFits (sym (raised_over p is.keeps.handlers behind cause.Index)) (over_fits behind cause.Index asks.heap fresh)
         arg_fits (Some x) e = same_further (pushed (Int x) behind) (e x)
 
-      message_typed : native_of p id ≡ Some native.Put → (box : BoxName) (v : Value) → args ≡ Box box ∷ v ∷ [] → (root : ℕ) → v ≡ Ref root → is_of p (of root) (class_type (n + 2)) ≡ true
-      message_typed known box v own root same =
-          let put = native_takes p is.keeps is.form id asks.callee native.Put asks.there asks.built_in known in
+      message_typed : PutIs n asks.callee → (box : BoxName) (v : Value) → args ≡ Box box ∷ v ∷ [] → (root : ℕ) → v ≡ Ref root → is_of p (of root) (class_type (n + 2)) ≡ true
+      message_typed put box v own root same =
           let types : native_types asks.callee ≡ Object (class_type (n + 5)) ∷ Object (class_type (n + 2)) ∷ [] =
           ap (λ (z : Bool). cond z [] (class_vtype asks.callee.owner ∷ []) ++ map vtype asks.callee.params) put.instance ∙ (ap (λ (c : ClassId). class_vtype c ∷ map vtype asks.callee.params) put.owner ∙ ap (λ (tys : List Ty). Object (class_type (n + 5)) ∷ map vtype tys) put.params) in
           let typed : have_types p asks.callee of (Object (class_type (n + 5)) ∷ Object (class_type (n + 2)) ∷ []) (Box box ∷ Ref root ∷ []) ≡ true =
@@ -165,7 +178,9 @@ module _ (set : Setting) (typing : Typing) (live : Wanted) (of : Classes) (is : 
       native_fits : (k : Native) (own : List Value) → args ≡ own → native_of p id ≡ Some k → NextFits (native_next set behind k own)
       native_fits native.Execute (Ref q ∷ []) own known = same_further behind (without_result native.Execute known refl)
       native_fits native.Start (Ref q ∷ []) own known = start_fits native.Start known q (shape_of p h q) (without_result native.Start known refl) (task_typed known q own)
-      native_fits native.Put (Box box ∷ v ∷ []) own known = message_next_fits native.Put known box v (without_result native.Put known refl) (message_typed known box v own)
+      native_fits native.Put (Box box ∷ v ∷ []) own known = message_next_fits native.Put known box v (without_result native.Put known refl) (message_typed (native_takes p is.keeps is.form id asks.callee native.Put asks.there asks.built_in known) box v own)
+      native_fits native.PutWait (Box box ∷ v ∷ []) own known = wait_next_fits native.PutWait known box v (without_result native.PutWait known refl) (message_typed (native_takes p is.keeps is.form id asks.callee native.PutWait asks.there asks.built_in known) box v own)
+      native_fits native.Bound (Box box ∷ Int i ∷ []) own known = bound_next_fits native.Bound known box i (without_result native.Bound known refl)
       native_fits native.Get (Box box ∷ []) own known = with_message native.Get known refl
       native_fits native.Getnb (Box box ∷ []) own known = with_message native.Getnb known refl
       native_fits native.Print (v ∷ []) own known = print_fits native.Print known (printed v) (without_result native.Print known refl)

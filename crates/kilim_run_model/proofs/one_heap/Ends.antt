@@ -1,6 +1,6 @@
 -- A thread has ended just where the last deed of its course is an end.
 use Rattle.std.proofs.Common.{◌≡◌, ℕ, zero, suc, ◌+◌, ℤ, Bool, true, false, cond, List, [], ◌∷◌, Option, Some, None, refl, sym, ap, subst, ◌∙◌, inl, inr}
-use Rattle.std.specs.Prelude.{nat_lt, nat_le}
+use Rattle.std.specs.Prelude.{pos, nat_lt, nat_le}
 use Rattle.std.proofs.lemmas.Bool.{cases_Bool}
 use Rattle.std.proofs.lemmas.Option.{same_Some, none-some}
 use Rattle.kilim_program.specs.Program.{Program}
@@ -22,7 +22,7 @@ use Rattle.kilim_run_state.specs.Trees.{OfMessage, OfTask, built}
 use Rattle.kilim_run_journal.specs.declared.entry.Act.{Act}
 use Rattle.kilim_run_journal.specs.declared.entry.Act.TheVariants.{Bound, Put, Take, Empty, Start, Print, End}
 use Rattle.kilim_run_model.specs.State.{Setting, Thread, Alive, Ended, begun_on}
-use Rattle.kilim_run_model.specs.Lone.{Lone, Next, Goes, Puts, PutWaits, Bounds, Gets, Probes, Starts, Prints, Ends, Stands, box_limit, went, pushed, pushed_on, ended, over, put_next, message_next, start_next, print_next, printed, arg_next, arg_at, native_next, asks_next, begins_next, finish_next, on_heap, next_by, frames_next, thread_next, next_move}
+use Rattle.kilim_run_model.specs.Lone.{Lone, Next, Goes, Puts, PutWaits, Bounds, Gets, Probes, Starts, Prints, Ends, Stands, box_limit, went, pushed, pushed_on, ended, over, put_next, message_next, put_wait_next, wait_next, bound_next, start_next, print_next, printed, arg_next, arg_at, native_next, asks_next, begins_next, finish_next, on_heap, next_by, frames_next, thread_next, next_move}
 use Rattle.kilim_run_model.specs.Course.{Course, Done, did, received, tree_left, lone_in, lone_built, lone_begun, next_or, next_within, next_action, tree_came, takes_deed, probes_deed, puts_deed, fills_deed, starts_deed, done_by, Follows, Quiet, Stays, Moves, is_end, ends_in, has_ended}
 use Rattle.kilim_run_model.specs.declared.deed.Deed.{Deed}
 use Rattle.kilim_run_model.specs.declared.deed.Beginning.{Beginning}
@@ -68,6 +68,19 @@ message_so p after box Null h = raised_has So after cause.Null refl p (λ object
 message_so p after box (Ref root) h = put_so after box root (shape_of p after.heap root) h
 message_so p after box v h = tt
 
+put_wait_so : (after : Lone) (box : BoxName) (root : ℕ) (shape : Option (List Token)) → is_ended after.thread ≡ false → So (put_wait_next after box root shape)
+put_wait_so after box root None h = refl
+put_wait_so after box root (Some shape) h = h
+
+wait_so : (p : Program) (after : Lone) (box : BoxName) (v : Value) → is_ended after.thread ≡ false → So (wait_next p after box v)
+wait_so p after box Null h = raised_has So after cause.Null refl p (λ object f fs frames done boxes e. refl)
+wait_so p after box (Ref root) h = put_wait_so after box root (shape_of p after.heap root) h
+wait_so p after box v h = tt
+
+bound_so : (p : Program) (after : Lone) (box : BoxName) (i : ℤ) → is_ended after.thread ≡ false → So (bound_next p after box i)
+bound_so p after box (pos (suc i)) h = h
+bound_so p after box i h = raised_has So after cause.Size refl p (λ object f fs frames done boxes e. refl)
+
 print_so : (after : Lone) (t : Option Token) → is_ended after.thread ≡ false → So (print_next after t)
 print_so after None h = tt
 print_so after (Some t) h = h
@@ -80,6 +93,8 @@ native_so : (set : Setting) (after : Lone) (nat : Native) (args : List Value) �
 native_so set after native.Execute (Ref r ∷ []) h = h
 native_so set after native.Start (Ref r ∷ []) h = start_so after r (shape_of set.program after.heap r) h
 native_so set after native.Put (Box box ∷ message ∷ []) h = message_so set.program after box message h
+native_so set after native.PutWait (Box box ∷ message ∷ []) h = wait_so set.program after box message h
+native_so set after native.Bound (Box box ∷ Int i ∷ []) h = bound_so set.program after box i h
 native_so set after native.Get (Box box ∷ []) h = h
 native_so set after native.Getnb (Box box ∷ []) h = h
 native_so set after native.Print (v ∷ []) h = print_so after (printed v) h

@@ -1,6 +1,6 @@
 -- What a thread does next is the same on a heap of its own as on a heap that it shares.
 use Rattle.std.proofs.Common.{◌≡◌, ℕ, ◌+◌, ◌<◌, ℤ, Bool, true, false, cond, List, [], ◌∷◌, map, Option, Some, None, refl, sym, subst, ◌∙◌, inl, inr, arith, le_refl}
-use Rattle.std.specs.Prelude.{nat_lt}
+use Rattle.std.specs.Prelude.{zero, suc, pos, negsuc, nat_lt}
 use Rattle.std.specs.FinMap.{insert}
 use Rattle.std.proofs.lemmas.Bool.Decides.{leb_tells}
 use Rattle.kilim_program.specs.Program.{Program}
@@ -26,7 +26,7 @@ use Rattle.kilim_run_state.specs.Objects.{new_object}
 use Rattle.kilim_run_state.specs.Shapes.{shape_of}
 use Rattle.kilim_run_state.specs.Trees.{Root, OfMessage, OfTask}
 use Rattle.kilim_run_model.specs.State.{Setting, Thread, Alive, Ended, begun_in, begun_on}
-use Rattle.kilim_run_model.specs.Lone.{Lone, Next, Stands, went, pushed, ended, over, raised, raises_by, raises_of, raises_next, throws_by, put_next, message_next, start_next, printed, print_next, narrowed, arg_at, arg_next, native_next, asks_next, box_limit, opens_next, begins_next, finish_next, on_heap, next_by, frames_next, thread_next, next_move}
+use Rattle.kilim_run_model.specs.Lone.{Lone, Next, Stands, went, pushed, ended, over, raised, raises_by, raises_of, raises_next, throws_by, put_next, message_next, put_wait_next, wait_next, bound_next, start_next, printed, print_next, narrowed, arg_at, arg_next, native_next, asks_next, box_limit, opens_next, begins_next, finish_next, on_heap, next_by, frames_next, thread_next, next_move}
 use Rattle.kilim_run_model.specs.Lone as next
 use Rattle.kilim_run_model.specs.Kept.{given}
 use Rattle.kilim_run_model.specs.kin.Kin.{Names, Owner, OfNobody, IsKin, AreKin, ObjectsKin, FramesKin, NameKin, Alike, AreHeld, IsThere, StandsIn, MoveKin}
@@ -231,6 +231,24 @@ module _ (setting : Setting) (of : Names) (owner : ℕ → Owner) (t : ℕ) (a b
         (put_kin box n (number_of (of n)) e tree (shape_of p a.heap n) refl)
     message_kin box _ e whole = tt
 
+    put_wait_kin : (box : BoxName) (n x : ℕ) → of n ≡ Some x → IsWholeTree p OfMessage a.heap n → (s : Option (List Token)) → shape_of p a.heap n ≡ s → Fits (put_wait_next c box n s) (put_wait_next d box x s)
+    put_wait_kin box n x e whole None is = ends_so cause.Large
+    put_wait_kin box n x e whole (Some shape) is = (refl, refl, record { of = of; kin = both; named = e; whole = whole; has = is })
+
+    wait_kin : (box : BoxName) (v : Value) → IsKin of v (renamed of v) → ((root : Root) (n : ℕ) → given (Some native.PutWait) (Box box ∷ v ∷ []) ≡ Some (root, n) → IsWholeTree p root a.heap n) →
+        Fits (wait_next p c box v) (wait_next p d box (renamed of v))
+    wait_kin box Null e whole = raised_so cause.Null
+    wait_kin box (Ref n) e whole =
+        let tree = whole OfMessage n refl in
+        subst (λ (z : Option (List Token)). Fits (put_wait_next c box n (shape_of p a.heap n)) (put_wait_next d box (number_of (of n)) z)) (same_shape OfMessage n (number_of (of n)) e tree)
+        (put_wait_kin box n (number_of (of n)) e tree (shape_of p a.heap n) refl)
+    wait_kin box _ e whole = tt
+
+    bound_kin : (box : BoxName) (i : ℤ) → Fits (bound_next p c box i) (bound_next p d box i)
+    bound_kin box (pos (suc i)) = (refl, refl, record { of = of; kin = both })
+    bound_kin box (pos zero) = raised_so cause.Size
+    bound_kin box (negsuc i) = raised_so cause.Size
+
     start_of_kin : (n : ℕ) → of n ≡ Some (number_of (of n)) → IsWholeTree p OfTask a.heap n → Fits (start_next c n (shape_of p a.heap n)) (start_next d (number_of (of n)) (shape_of p b.heap (number_of (of n))))
     start_of_kin n e tree =
         subst (λ (z : Option (List Token)). Fits (start_next c n (shape_of p a.heap n)) (start_next d (number_of (of n)) z)) (same_shape OfTask n (number_of (of n)) e tree)
@@ -249,6 +267,8 @@ module _ (setting : Setting) (of : Names) (owner : ℕ → Owner) (t : ℕ) (a b
     native_kin native.Execute (Ref n ∷ []) e whole = goes_kin c d both
     native_kin native.Start (Ref n ∷ []) e whole = start_of_kin n e.0 (whole OfTask n refl)
     native_kin native.Put (Box box ∷ v ∷ []) e whole = message_kin box v e.1.0 whole
+    native_kin native.PutWait (Box box ∷ v ∷ []) e whole = wait_kin box v e.1.0 whole
+    native_kin native.Bound (Box box ∷ Int i ∷ []) e whole = bound_kin box i
     native_kin native.Get (Box box ∷ []) e whole = (refl, record { of = of; kin = both })
     native_kin native.Getnb (Box box ∷ []) e whole = (refl, record { of = of; kin = both })
     native_kin native.Print (v ∷ []) e whole = subst (λ (z : Option Token). Fits (print_next c (printed v)) (print_next d z)) (printed_same of v) (print_kin (printed v))

@@ -33,7 +33,7 @@ use Rattle.kilim_run_machine.specs.Does.{does, makes_array, array_limit, calls_m
 use Rattle.kilim_run_machine.specs.Moves.{Move, receiver_of, push_value, moves, move_by, called, returned, entered, goes_on, frame_limit, effect_found, effect_in, effect_of}
 use Rattle.kilim_run_machine.specs.Moves as move
 use Rattle.kilim_run_model.specs.State.{Setting, Thread, Alive, Ended, begun_on}
-use Rattle.kilim_run_model.specs.Lone.{Lone, Next, next_move, thread_next, frames_next, next_by, opens_next, finish_next, begins_next, asks_next, native_next, message_next, put_next, start_next, print_next, printed, arg_next, arg_at, over, raised, went, on_heap, box_limit}
+use Rattle.kilim_run_model.specs.Lone.{Lone, Next, next_move, thread_next, frames_next, next_by, opens_next, finish_next, begins_next, asks_next, native_next, message_next, put_next, put_wait_next, wait_next, bound_next, start_next, print_next, printed, arg_next, arg_at, over, raised, went, on_heap, box_limit}
 use Rattle.kilim_run_model.specs.Lone as next
 use Rattle.kilim_run_model.specs.Moving.{is_others, is_tasks}
 use Rattle.kilim_run_model.proofs.Raised.{raised_has, raises_has, throws_has}
@@ -379,6 +379,19 @@ message_fine p l box Null = raised_has NextFine l cause.Null refl p (λ object f
 message_fine p l box (Ref n) = put_fine l box n (shape_of p l.heap n)
 message_fine p l box v = tt
 
+put_wait_fine : (l : Lone) (box : BoxName) (n : ℕ) (o : Option (List Token)) → NextFine (put_wait_next l box n o)
+put_wait_fine l box n None = refl
+put_wait_fine l box n (Some shape) = tt
+
+wait_fine : (p : Program) (l : Lone) (box : BoxName) (v : Value) → NextFine (wait_next p l box v)
+wait_fine p l box Null = raised_has NextFine l cause.Null refl p (λ object f fs frames done boxes e. tt)
+wait_fine p l box (Ref n) = put_wait_fine l box n (shape_of p l.heap n)
+wait_fine p l box v = tt
+
+bound_fine : (p : Program) (l : Lone) (box : BoxName) (i : ℤ) → NextFine (bound_next p l box i)
+bound_fine p l box (pos (suc i)) = tt
+bound_fine p l box i = raised_has NextFine l cause.Size refl p (λ object f fs frames done boxes e. tt)
+
 start_fine : (l : Lone) (n : ℕ) (o : Option (List Token)) → NextFine (start_next l n o)
 start_fine l n None = refl
 start_fine l n (Some shape) = tt
@@ -395,6 +408,8 @@ native_fine : (set : Setting) (l : Lone) (n : Native) (args : List Value) → Ne
 native_fine set l native.Execute (Ref n ∷ []) = tt
 native_fine set l native.Start (Ref n ∷ []) = start_fine l n (shape_of set.program l.heap n)
 native_fine set l native.Put (Box box ∷ v ∷ []) = message_fine set.program l box v
+native_fine set l native.PutWait (Box box ∷ v ∷ []) = wait_fine set.program l box v
+native_fine set l native.Bound (Box box ∷ Int i ∷ []) = bound_fine set.program l box i
 native_fine set l native.Get (Box box ∷ []) = tt
 native_fine set l native.Getnb (Box box ∷ []) = tt
 native_fine set l native.Print (v ∷ []) = print_fine l (printed v)

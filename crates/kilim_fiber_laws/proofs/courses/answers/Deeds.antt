@@ -1,5 +1,5 @@
 -- A built-in method with arguments that it takes comes to no lost state.
-use Rattle.std.proofs.Common.{◌≡◌, ℕ, Bool, true, false, ℤ, List, [], ◌∷◌, Option, Some, None, refl, sym, subst}
+use Rattle.std.proofs.Common.{◌≡◌, ℕ, Bool, true, false, ℤ, List, [], ◌∷◌, Option, Some, None, refl, sym, subst, zero, suc, pos, negsuc}
 use Rattle.kilim_program.specs.declared.names.BoxName.{BoxName}
 use Rattle.kilim_program.specs.declared.value.Value.{Value}
 use Rattle.kilim_program.specs.declared.value.Value.TheVariants.{Box, Int, Null, Ref}
@@ -16,7 +16,7 @@ use Rattle.kilim_run_state.specs.Trees.{OfMessage, built}
 use Rattle.kilim_run_model.specs.declared.deed.Deed.{Deed}
 use Rattle.kilim_run_model.specs.Lone.{arg_at, printed}
 use Rattle.kilim_run_model.specs.State.{Setting}
-use Rattle.kilim_fiber_spec.specs.Acts.{Action, Lost, Wants, World, acting, ending, gives_arg, last, native_does, prints, probe_by, put_by, puts, puts_value, receives, start_by, starts, take_by}
+use Rattle.kilim_fiber_spec.specs.Acts.{Action, Lost, Wants, World, acting, ending, gives_arg, last, native_does, prints, probe_by, put_by, puts, puts_value, receives, start_by, starts, take_by, put_wait_by, put_waits, waits_value, bounds}
 use Rattle.kilim_fiber_spec.specs.Acts as action
 use Rattle.kilim_fiber_spec.specs.Thread.{Stop, Thread}
 
@@ -35,6 +35,8 @@ abbrev pub TakesSuch : Native → List Value → Type 0
 TakesSuch native.Execute (Ref n ∷ []) = Unit {0}
 TakesSuch native.Start (Ref n ∷ []) = Unit {0}
 TakesSuch native.Put (Box box ∷ message ∷ []) = IsMessage message
+TakesSuch native.PutWait (Box box ∷ message ∷ []) = IsMessage message
+TakesSuch native.Bound (Box box ∷ Int i ∷ []) = Unit {0}
 TakesSuch native.Get (Box box ∷ []) = Unit {0}
 TakesSuch native.Getnb (Box box ∷ []) = Unit {0}
 TakesSuch native.Print (v ∷ []) = (t : Token) × (printed v ≡ Some t)
@@ -72,6 +74,24 @@ module _ (set : Setting) (w : World) (go : World → Option Value → Thread) (o
   message_so box (Ref n) t = puts_so box n (shape_of set.program w.heap n)
   message_so box v t = absurd t
 
+  put_wait_so : (box : BoxName) (shape : List Token) (n : ℕ) (act : Act) (rest : List Deed) → is_lost (put_wait_by set w Stop go box shape n act rest) ≡ false
+  put_wait_so box shape n (Put b k s) rest = on _ _
+  put_wait_so box shape n act rest = refl
+
+  put_waits_so : (box : BoxName) (n : ℕ) (o : Option (List Token)) → is_lost (put_waits set w Stop go box n o) ≡ false
+  put_waits_so box n None = ended cause.Large
+  put_waits_so box n (Some shape) = acted (action.PutWaits box n shape) (λ deed rest. put_wait_by set w Stop go box shape n deed.act rest) (λ d rest. put_wait_so box shape n d.act rest)
+
+  wait_so : (box : BoxName) (v : Value) → IsMessage v → is_lost (waits_value set w Stop go box v) ≡ false
+  wait_so box Null t = ended cause.Null
+  wait_so box (Ref n) t = put_waits_so box n (shape_of set.program w.heap n)
+  wait_so box v t = absurd t
+
+  bound_so : (box : BoxName) (i : ℤ) → is_lost (bounds set w Stop go box i) ≡ false
+  bound_so box (pos (suc n)) = acted (action.Bounds box (suc n)) _ (λ d rest. on _ _)
+  bound_so box (pos zero) = ended cause.Size
+  bound_so box (negsuc n) = ended cause.Size
+
   start_so : (shape : List Token) (n : ℕ) (act : Act) (rest : List Deed) → is_lost (start_by set w Stop go shape n act rest) ≡ false
   start_so shape n (Start t s) rest = on _ _
   start_so shape n (End c) rest = at_last cause.Tasks rest
@@ -104,6 +124,8 @@ module _ (set : Setting) (w : World) (go : World → Option Value → Thread) (o
   does_so native.Execute (Ref n ∷ []) t = on _ _
   does_so native.Start (Ref n ∷ []) t = starts_so n (shape_of set.program w.heap n)
   does_so native.Put (Box box ∷ message ∷ []) t = message_so box message t
+  does_so native.PutWait (Box box ∷ message ∷ []) t = wait_so box message t
+  does_so native.Bound (Box box ∷ Int i ∷ []) t = bound_so box i
   does_so native.Get (Box box ∷ []) t = acted (action.Gets box) _ (λ d rest. take_so box d.taken d.act rest)
   does_so native.Getnb (Box box ∷ []) t = acted (action.Probes box) _ (λ d rest. probe_so box d.taken d.act rest)
   does_so native.Print (v ∷ []) t = prints_so v t.0 t.1

@@ -21,7 +21,7 @@ use Rattle.kilim_type_sound.specs.Sound.{native_types}
 use Rattle.kilim_run_state.specs.declared.value.Token.{Token}
 use Rattle.kilim_run_state.specs.declared.value.Token.TheVariants as token
 use Rattle.kilim_run_state.specs.Machine.{Objects}
-use Rattle.kilim_run_machine.specs.Natives.{Native, native_method, native_named, natives}
+use Rattle.kilim_run_machine.specs.Natives.{Native, native_method, native_named, natives, native_in}
 use Rattle.kilim_run_machine.specs.Natives as native
 use Rattle.kilim_run_model.specs.Lone.{printed}
 use Rattle.kilim_fiber_laws.proofs.courses.answers.Asked.{AsksWell, HasFirst}
@@ -32,7 +32,7 @@ pub AnswersAs : Program → Classes → Objects → Method → Type 0
 AnswersAs p of h m = (args : List Value) → AsksWell p h m args → have_types p m of (native_types m) args ≡ true → (k : Native) × (native_method p m ≡ Some k) × TakesSuch k args
 
 abbrev by_name : Method → List ℕ → Option Native
-by_name m name = cond m.built_in (native_named natives name m.name) None
+by_name m name = native_in name m
 
 module _ (p : Program) (m : Method) (of : Classes) where
   one : (t : VType) (args : List Value) → have_types p m of (t ∷ []) args ≡ true → (v : Value) × (args ≡ v ∷ []) × (has_type p m of t v ≡ true)

@@ -1,5 +1,5 @@
 -- What a built-in method does leaves the object that a task keeps.
-use Rattle.std.proofs.Common.{◌≡◌, ℕ, ℤ, List, [], ◌∷◌, Option, Some, None, refl}
+use Rattle.std.proofs.Common.{◌≡◌, ℕ, ℤ, List, [], ◌∷◌, Option, Some, None, refl, zero, suc, pos, negsuc}
 use Rattle.kilim_program.specs.declared.names.BoxName.{BoxName}
 use Rattle.kilim_program.specs.declared.value.Value.{Value}
 use Rattle.kilim_program.specs.declared.value.Value.TheVariants.{Box, Int, Null, Ref}
@@ -16,7 +16,7 @@ use Rattle.kilim_run_state.specs.Trees.{OfMessage, built}
 use Rattle.kilim_run_model.specs.declared.deed.Deed.{Deed}
 use Rattle.kilim_run_model.specs.Lone.{arg_at, printed}
 use Rattle.kilim_run_model.specs.State.{Setting}
-use Rattle.kilim_fiber_spec.specs.Acts.{Action, Astray, Finished, Lost, Over, Wants, World, acting, asks, ending, gives_arg, last, native_does, prints, probe_by, put_by, puts, puts_value, receives, start_by, starts, take_by}
+use Rattle.kilim_fiber_spec.specs.Acts.{Action, Astray, Finished, Lost, Over, Wants, World, acting, asks, ending, gives_arg, last, native_does, prints, probe_by, put_by, puts, puts_value, receives, start_by, starts, take_by, put_wait_by, put_waits, waits_value, bounds}
 use Rattle.kilim_fiber_spec.specs.Acts as action
 use Rattle.kilim_fiber_spec.specs.Thread.{Stop, Thread}
 
@@ -51,6 +51,24 @@ module _ (set : Setting) (Q : Thread → Type 0) (over : (o : Over) → Q (Stop 
     message_so box (Ref n) = puts_so box n (shape_of set.program w.heap n)
     message_so box v = over Lost
 
+    put_wait_so : (box : BoxName) (shape : List Token) (n : ℕ) (act : Act) (rest : List Deed) → Q (put_wait_by set w Stop go box shape n act rest)
+    put_wait_so box shape n (Put b k s) rest = on _ _ refl
+    put_wait_so box shape n act rest = over Astray
+
+    put_waits_so : (box : BoxName) (n : ℕ) (o : Option (List Token)) → Q (put_waits set w Stop go box n o)
+    put_waits_so box n None = ended cause.Large
+    put_waits_so box n (Some shape) = acted (action.PutWaits box n shape) (λ deed rest. put_wait_by set w Stop go box shape n deed.act rest) (λ d rest. put_wait_so box shape n d.act rest)
+
+    wait_so : (box : BoxName) (v : Value) → Q (waits_value set w Stop go box v)
+    wait_so box Null = ended cause.Null
+    wait_so box (Ref n) = put_waits_so box n (shape_of set.program w.heap n)
+    wait_so box v = over Lost
+
+    bound_so : (box : BoxName) (i : ℤ) → Q (bounds set w Stop go box i)
+    bound_so box (pos (suc n)) = acted (action.Bounds box (suc n)) _ (λ d rest. on _ _ refl)
+    bound_so box (pos zero) = ended cause.Size
+    bound_so box (negsuc n) = ended cause.Size
+
     start_so : (shape : List Token) (n : ℕ) (act : Act) (rest : List Deed) → Q (start_by set w Stop go shape n act rest)
     start_so shape n (Start t s) rest = on _ _ refl
     start_so shape n (End c) rest = at_last cause.Tasks rest
@@ -84,6 +102,8 @@ module _ (set : Setting) (Q : Thread → Type 0) (over : (o : Over) → Q (Stop 
     does_so native.Execute (Ref n ∷ []) = on _ _ refl
     does_so native.Start (Ref n ∷ []) = starts_so n (shape_of set.program w.heap n)
     does_so native.Put (Box box ∷ message ∷ []) = message_so box message
+    does_so native.PutWait (Box box ∷ message ∷ []) = wait_so box message
+    does_so native.Bound (Box box ∷ Int i ∷ []) = bound_so box i
     does_so native.Get (Box box ∷ []) = acted (action.Gets box) _ (λ d rest. take_so box d.taken d.act rest)
     does_so native.Getnb (Box box ∷ []) = acted (action.Probes box) _ (λ d rest. probe_so box d.taken d.act rest)
     does_so native.Print (v ∷ []) = prints_so (printed v)

@@ -1,5 +1,5 @@
 -- Where a step ends, it shows the world as it was before.
-use Rattle.std.proofs.Common.{◌≡◌, cond, ℤ, ℕ, ◌+◌, Bool, true, false, List, [], ◌∷◌, length, Option, Some, None, refl, subst}
+use Rattle.std.proofs.Common.{◌≡◌, cond, ℤ, ℕ, ◌+◌, Bool, true, false, List, [], ◌∷◌, length, Option, Some, None, refl, subst, zero, suc, pos, negsuc}
 use Rattle.std.specs.Prelude.{nat_le, nat_lt}
 use Rattle.kilim_program.specs.declared.class.Method.{Method}
 use Rattle.kilim_program.specs.declared.instr.Instr.{Instr}
@@ -27,7 +27,7 @@ use Rattle.kilim_run_model.specs.declared.deed.Deed.{Deed}
 use Rattle.kilim_run_model.specs.Lone.{arg_at, box_limit, printed}
 use Rattle.kilim_run_model.specs.State.{Setting}
 use Rattle.kilim_fiber_laws.proofs.receivers.Heaps.{KeepsHeap, keeps_heap}
-use Rattle.kilim_fiber_spec.specs.Acts.{Action, Astray, Finished, Lost, Over, Wants, World, acting, asks, counted, ending, gives_arg, last, native_does, prints, probe_by, put_by, puts, puts_value, receives, start_by, starts, take_by, with_heap}
+use Rattle.kilim_fiber_spec.specs.Acts.{Action, Astray, Finished, Lost, Over, Wants, World, acting, asks, counted, ending, gives_arg, last, native_does, prints, probe_by, put_by, puts, puts_value, receives, start_by, starts, take_by, with_heap, put_wait_by, put_waits, waits_value, bounds}
 use Rattle.kilim_fiber_spec.specs.Acts as action
 use Rattle.kilim_fiber_spec.specs.Thread.{At, Frame, Run, Stop, Thread, begins, begins_in, effect_does, fetch, finishes, found_does, own_of, push, returns, self_of, step}
 
@@ -75,6 +75,24 @@ module _ (set : Setting) where
       message_so box (Ref n) = puts_so box n (shape_of set.program w.heap n)
       message_so box v = tt
 
+      put_wait_so : (box : BoxName) (shape : List Token) (n : ℕ) (act : Act) (rest : List Deed) → Shows w (put_wait_by set w Stop go box shape n act rest)
+      put_wait_so box shape n (Put c k z) rest = tt
+      put_wait_so box shape n act rest = tt
+
+      put_waits_so : (box : BoxName) (n : ℕ) (o : Option (List Token)) → Shows w (put_waits set w Stop go box n o)
+      put_waits_so box n None = ended cause.Large
+      put_waits_so box n (Some shape) = acted (action.PutWaits box n shape) (λ deed rest. put_wait_by set w Stop go box shape n deed.act rest) (λ d rest. put_wait_so box shape n d.act rest)
+
+      wait_so : (box : BoxName) (v : Value) → Shows w (waits_value set w Stop go box v)
+      wait_so box Null = ended cause.Null
+      wait_so box (Ref n) = put_waits_so box n (shape_of set.program w.heap n)
+      wait_so box v = tt
+
+      bound_so : (box : BoxName) (i : ℤ) → Shows w (bounds set w Stop go box i)
+      bound_so box (pos (suc n)) = acted (action.Bounds box (suc n)) _ (λ d rest. tt)
+      bound_so box (pos zero) = ended cause.Size
+      bound_so box (negsuc n) = ended cause.Size
+
       start_so : (shape : List Token) (n : ℕ) (act : Act) (rest : List Deed) → Shows w (start_by set w Stop go shape n act rest)
       start_so shape n (Start t z) rest = tt
       start_so shape n (End why) rest = at_last cause.Tasks rest
@@ -108,6 +126,8 @@ module _ (set : Setting) where
       does_so native.Execute (Ref n ∷ []) = tt
       does_so native.Start (Ref n ∷ []) = starts_so n (shape_of set.program w.heap n)
       does_so native.Put (Box box ∷ message ∷ []) = message_so box message
+      does_so native.PutWait (Box box ∷ message ∷ []) = wait_so box message
+      does_so native.Bound (Box box ∷ Int i ∷ []) = bound_so box i
       does_so native.Get (Box box ∷ []) = acted (action.Gets box) _ (λ d rest. take_so box d.taken d.act rest)
       does_so native.Getnb (Box box ∷ []) = acted (action.Probes box) _ (λ d rest. probe_so box d.taken d.act rest)
       does_so native.Print (v ∷ []) = prints_so (printed v)

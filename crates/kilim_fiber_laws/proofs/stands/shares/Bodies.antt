@@ -27,7 +27,7 @@ use Rattle.kilim_run_machine.specs.Does.{does, calls_method, calls_on, calls_tex
 use Rattle.kilim_run_machine.specs.Effect.{Effect, Goes, Calls, Asks, with_some, on_value, on_values, as_receiver, as_class, as_int, as_object, at_index, at_place, text_of, when}
 use Rattle.kilim_program.specs.Members.{named_type}
 use Rattle.kilim_run_state.specs.Machine.{Objects}
-use Rattle.kilim_run_machine.specs.Natives.{Native, is_built_in_constructor, is_handed_out, is_take, is_text_method, native_method, native_named, natives}
+use Rattle.kilim_run_machine.specs.Natives.{Native, is_built_in_constructor, is_handed_out, is_take, is_text_method, native_method, native_named, natives, native_in}
 use Rattle.kilim_type_spec.specs.Step.{Types, by_row, missing, may_make, may_name, row, special_by, special_fits, special_row, static_row, type_step, virtual_row}
 use Rattle.kilim_type_spec.specs.Typed.{IsWellTyped, typing_of}
 use Rattle.kilim_type_laws.proofs.Edges.{stands_at}
@@ -57,20 +57,18 @@ pub record FitBuiltIn (P : Program) (m : Method) : Type 0 where
 
 module _ (P : Program) where
   -- one that doesn't pause
-  still : (m : Method) (class : List ℕ) → class_name P m.owner ≡ class → m.built_in ≡ true → m.pausable ≡ false → FitNative (native_named natives class m.name) false → FitBuiltIn P m
+  still : (m : Method) (class : List ℕ) → class_name P m.owner ≡ class → m.built_in ≡ true → m.pausable ≡ false → FitNative (native_in class m) false → FitBuiltIn P m
   still m class e b p n = record {
-    native = subst (λ (z : Bool). FitNative (native_method P m) z) (sym p) (subst (λ (z : Bool). FitNative (if z then native_named natives (class_name P m.owner) m.name else None) false) (sym b)
-        (subst (λ (z : List ℕ). FitNative (native_named natives z m.name) false) (sym e) n));
+    native = subst (λ (z : Bool). FitNative (native_method P m) z) (sym p) (subst (λ (z : List ℕ). FitNative (native_in z m) false) (sym e) n);
     text = λ h. absurd (false≢true (sym p ∙ h));
     handed_out = λ h. absurd (false≢true (sym p ∙ h));
   }
 
   -- one that pauses
-  pauses : (m : Method) (class : List ℕ) → class_name P m.owner ≡ class → m.built_in ≡ true → m.pausable ≡ true → FitNative (native_named natives class m.name) true
+  pauses : (m : Method) (class : List ℕ) → class_name P m.owner ≡ class → m.built_in ≡ true → m.pausable ≡ true → FitNative (native_in class m) true
       → bytes_eq class (codes "java/lang/String") ≡ false → bytes_eq m.name (codes "<init>") ≡ false → bytes_eq m.name (codes "take") ≡ false → FitBuiltIn P m
   pauses m class e b p n text plain take = record {
-    native = subst (λ (z : Bool). FitNative (native_method P m) z) (sym p) (subst (λ (z : Bool). FitNative (if z then native_named natives (class_name P m.owner) m.name else None) true) (sym b)
-        (subst (λ (z : List ℕ). FitNative (native_named natives z m.name) true) (sym e) n));
+    native = subst (λ (z : Bool). FitNative (native_method P m) z) (sym p) (subst (λ (z : List ℕ). FitNative (native_in z m) true) (sym e) n);
     text = λ h. no_text;
     handed_out = λ h. handed;
   }
@@ -185,7 +183,7 @@ module _ (P : Program) (keeps : Keeps P) (plainly : P.form ≡ Plain) where
     where
       by : (z : Bool) → m.built_in ≡ z → FitNative (native_method P m) m.pausable
       by true e = (fit id m at e).native
-      by false e = subst (λ (z : Bool). FitNative (if z then native_named natives (class_name P m.owner) m.name else None) m.pausable) (sym e) tt
+      by false e = subst (λ (z : Bool). FitNative (if z && not (is_built_in_constructor m || (is_text_method P m || is_take P m)) then native_named natives (class_name P m.owner) m.name else None) m.pausable) (sym e) tt
 
 -- ---- well-typed code
 

@@ -1,5 +1,6 @@
 -- The members of the fiber in a woven program, and the built-in `execute`.
 use Rattle.std.proofs.Common.{◌≡◌, ℕ, zero, suc, ◌+◌, Bool, true, false, not, ◌&&◌, ◌||◌, List, [], ◌∷◌, ◌++◌, length, Option, Some, None, refl, sym, ap, subst, ◌∙◌, arith}
+use Rattle.kilim_run_machine.proofs.Named.{named_native}
 use Rattle.std.specs.Prelude.{slice_get, codes, if◌then◌else◌, ◌==◌}
 use Rattle.std.specs.List.{AllByRecursion, list_any}
 use Rattle.std.specs.Str.{bytes_eq}
@@ -57,11 +58,11 @@ module _ (W : Program) where
       ∙ ap (λ (z : Bool). true && not (z || (is_text_method W m || is_take W m))) (ap (λ (z : Bool). z && (bytes_eq m.name (codes "<init>") && is_empty m.params)) b ∙ ap (λ (z : Bool). true && (z && is_empty m.params)) c)
       ∙ ap (λ (z : Bool). true && not (false || (z || is_take W m))) (no_text m e b) ∙ ap (λ (z : Bool). true && not (false || (false || z))) (no_take m e b)
 
-  pub native_is : (m : Method) (k : FiberMember) → class_name W m.owner ≡ codes "kilim/Fiber" → native_named natives (codes "kilim/Fiber") m.name ≡ Some (OfFiber k) → m.built_in ≡ true → native_method W m ≡ Some (OfFiber k)
-  native_is m k e n b = ap (λ (z : Bool). if z then native_named natives (class_name W m.owner) m.name else None) b ∙ ap (λ (z : List ℕ). native_named natives z m.name) e ∙ n
+  pub native_is : (m : Method) (k : FiberMember) → class_name W m.owner ≡ codes "kilim/Fiber" → native_named natives (codes "kilim/Fiber") m.name ≡ Some (OfFiber k) → m.built_in ≡ true → is_constructor m ≡ false → native_method W m ≡ Some (OfFiber k)
+  native_is m k e n b c = named_native (class_name W m.owner) m (handed m e b c) ∙ ap (λ (z : List ℕ). native_named natives z m.name) e ∙ n
 
   abbrev pub of_fiber : (m : Method) (k : FiberMember) → class_name W m.owner ≡ codes "kilim/Fiber" → native_named natives (codes "kilim/Fiber") m.name ≡ Some (OfFiber k) → m.built_in ≡ true → m.is_private ≡ false → is_constructor m ≡ false → m.max_locals ≡ 0 → FitMember W m
-  of_fiber m k e n b p c l = record { member = k; native = native_is m k e n b; built_in = b; is_private = p; plain = c; locals = l; text = no_text m e b; handed_out = handed m e b c }
+  of_fiber m k e n b p c l = record { member = k; native = native_is m k e n b c; built_in = b; is_private = p; plain = c; locals = l; text = no_text m e b; handed_out = handed m e b c }
 
   pub all_members : (n : ℕ) → class_name W (class_id (n + 7)) ≡ codes "kilim/Fiber" → AllByRecursion (FitMember W) (fiber_methods Woven n)
   all_members n e = (

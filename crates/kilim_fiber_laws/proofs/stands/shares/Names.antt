@@ -1,6 +1,7 @@
 -- What names and calls find in a program and in its woven form.
-use Rattle.std.proofs.Common.{◌≡◌, inl, inr, ℕ, zero, suc, ◌+◌, ◌<◌, Bool, true, false, cond, not, ◌&&◌, ◌||◌, List, [], ◌∷◌, ◌++◌, length, Option, Some, None, refl, sym, ap, subst, ◌∙◌, arith, ltb-true}
-use Rattle.std.specs.Prelude.{slice_get, codes, if◌then◌else◌, ◌==◌}
+use Rattle.std.proofs.Common.{◌≡◌, inl, inr, ℕ, zero, suc, ◌+◌, ◌<◌, Bool, true, false, cond, not, ◌&&◌, ◌||◌, List, [], ◌∷◌, ◌++◌, length, Option, Some, None, refl, sym, ap, subst, ◌∙◌, arith, ltb-true, eqb, append-nil}
+use Rattle.kilim_type_laws.proofs.members.FromKeeps.{all_at}
+use Rattle.std.specs.Prelude.{slice_get, codes, if◌then◌else◌, ◌==◌, nat_le}
 use Rattle.std.specs.List.{list_any, flat_map}
 use Rattle.std.specs.Str.{bytes_eq}
 use Rattle.std.proofs.lemmas.Bool.{and_parts, false≢true}
@@ -16,11 +17,11 @@ use Rattle.kilim_program.specs.declared.ty.Base.TheVariants as base
 use Rattle.kilim_program.specs.declared.ty.Ty.{Ty}
 use Rattle.kilim_program.specs.BuiltIn.{built_in_classes_in, built_in_methods_in, class_type}
 use Rattle.kilim_program.specs.Fits.{base_assignable, class_assignable, fits_type, is_named, is_object_base, type_assignable}
-use Rattle.kilim_program.specs.Keeps.{Keeps}
+use Rattle.kilim_program.specs.Keeps.{Keeps, method_is_sound}
 use Rattle.kilim_program.specs.Kinds.{is_message}
-use Rattle.kilim_program.specs.Names.{class_at, class_from, class_name, class_named, first_that, line_of, method_at, methods_of}
+use Rattle.kilim_program.specs.Names.{class_at, class_from, class_name, class_named, first_that, line_of, method_at, methods_of, is_empty}
 use Rattle.kilim_program.specs.Program.{Program}
-use Rattle.kilim_program.specs.Same.{answers, is_constructor, selected}
+use Rattle.kilim_program.specs.Same.{answers, is_constructor, selected, argument_slots}
 use Rattle.kilim_run_machine.specs.Does.{above_of, chosen, chosen_by, chosen_on, special, superclass_of}
 use Rattle.kilim_program.specs.Members.{named_class, named_type}
 use Rattle.kilim_run_machine.specs.Natives.{is_built_in_constructor, is_built_in_of, is_handed_out, is_take, is_text_method, native_method, native_named, natives}
@@ -32,7 +33,7 @@ use Rattle.kilim_type_laws.proofs.members.ClassMethods.{IsAmong, owner_has}
 use Rattle.kilim_type_laws.proofs.members.Finding.{answer_of, finds_chosen}
 use Rattle.kilim_type_laws.proofs.members.Through.{cases, message_at, message_top, object_at, object_top}
 use Rattle.kilim_weave_spec.specs.Form.{WovenForm, has_calls, woven_as}
-use Rattle.kilim_weave_laws.proofs.woven_programs.Methods.{Like, like, woven_at}
+use Rattle.kilim_weave_laws.proofs.woven_programs.Methods.{Like, like, woven_at, fibers}
 use Rattle.kilim_weave_laws.proofs.woven_programs.Naming.{owner_there}
 use Rattle.kilim_weave_laws.proofs.woven_programs.Selecting as kept
 use Rattle.kilim_weave_laws.proofs.woven_programs.Theorem as theorem
@@ -156,11 +157,48 @@ module _ (P W : Program) (counted : List (List Bool)) (keeps : Keeps P) (plainly
   take_same id a b at l e =
       ap (λ (z : Bool). z && bytes_eq b.name (codes "take")) (of_same id a b (codes "kilim/Sys") at l e) ∙ ap (λ (n : List ℕ). is_built_in_of P (codes "kilim/Sys") a && bytes_eq n (codes "take")) l.name
 
+  -- a pausable method is no constructor, and another one has the same parameters
+  constructor_same : (id : MethodId) (a b : Method) → method_at P id ≡ Some a → Like P a b → b.built_in ≡ a.built_in → is_built_in_constructor b ≡ is_built_in_constructor a
+  unfolding method_is_sound
+  constructor_same id a b at l e = by a.pausable refl
+    where
+      not_both : (x y : Bool) → not (x && y) ≡ true → y ≡ true → x ≡ false
+      not_both true true e h = absurd (false≢true e)
+      not_both true false e h = absurd (false≢true h)
+      not_both false y e h = refl
+
+      none : (x y : Bool) → (x && (false && y)) ≡ false
+      none true y = refl
+      none false y = refl
+
+      no_constructor : a.pausable ≡ true → bytes_eq a.name (codes "<init>") ≡ false
+      no_constructor is =
+          let s = all_at method_is_sound P.methods id.0 a keeps.methods at in
+          let t = and_parts (eqb (length a.qualifiers) (length a.params)) _ s in
+          not_both (is_constructor a) a.pausable (and_parts (nat_le (argument_slots a) 255) _ t.1).1 is
+
+      by : (z : Bool) → a.pausable ≡ z → is_built_in_constructor b ≡ is_built_in_constructor a
+      by true is =
+          let n : bytes_eq b.name (codes "<init>") ≡ false = ap (λ (x : List ℕ). bytes_eq x (codes "<init>")) l.name ∙ no_constructor is in
+          ap (λ (z : Bool). b.built_in && (z && is_empty b.params)) n ∙ none b.built_in (is_empty b.params)
+          ∙ sym (ap (λ (z : Bool). a.built_in && (z && is_empty a.params)) (no_constructor is) ∙ none a.built_in (is_empty a.params))
+      by false is =
+          ap (λ (z : Bool). z && (bytes_eq b.name (codes "<init>") && is_empty b.params)) e
+          ∙ ap (λ (x : List ℕ). a.built_in && (bytes_eq x (codes "<init>") && is_empty b.params)) l.name
+          ∙ ap (λ (tys : List Ty). a.built_in && (bytes_eq a.name (codes "<init>") && is_empty tys)) (l.params ∙ ap (λ (z : Bool). a.params ++ fibers P z) is ∙ append-nil a.params)
+
+  handed_in_both : (id : MethodId) (a b : Method) → method_at P id ≡ Some a → Like P a b → b.built_in ≡ a.built_in → is_handed_out W b ≡ is_handed_out P a
+  handed_in_both id a b at l e =
+      ap (λ (z : Bool). z && not (is_built_in_constructor b || (is_text_method W b || is_take W b))) e
+      ∙ ap (λ (z : Bool). a.built_in && not (z || (is_text_method W b || is_take W b))) (constructor_same id a b at l e)
+      ∙ ap (λ (z : Bool). a.built_in && not (is_built_in_constructor a || (z || is_take W b))) (text_same id a b at l e)
+      ∙ ap (λ (z : Bool). a.built_in && not (is_built_in_constructor a || (is_text_method P a || z))) (take_same id a b at l e)
+
   pub native_same : (id : MethodId) (a b : Method) → method_at P id ≡ Some a → Like P a b → b.built_in ≡ a.built_in → native_method W b ≡ native_method P a
   native_same id a b at l e =
-      ap (λ (z : Bool). if z then native_named natives (class_name W b.owner) b.name else None) e
-      ∙ ap (λ (n : List ℕ). if a.built_in then native_named natives n b.name else None) (name_now id a b at l)
-      ∙ ap (λ (n : List ℕ). if a.built_in then native_named natives (class_name P a.owner) n else None) l.name
+      ap (λ (z : Bool). if z then native_named natives (class_name W b.owner) b.name else None) (handed_in_both id a b at l e)
+      ∙ ap (λ (n : List ℕ). if is_handed_out P a then native_named natives n b.name else None) (name_now id a b at l)
+      ∙ ap (λ (n : List ℕ). if is_handed_out P a then native_named natives (class_name P a.owner) n else None) l.name
 
   -- of a method that stays
   pub handed_same : (id : MethodId) (a : Method) → method_at P id ≡ Some a → Like P a a → is_handed_out W a ≡ is_handed_out P a

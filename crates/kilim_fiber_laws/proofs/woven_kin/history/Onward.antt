@@ -8,7 +8,7 @@ use Rattle.kilim_fiber_laws.specs.woven_kin.history.History.{ComesTo, Does, Foll
 use Rattle.kilim_fiber_laws.specs.woven_kin.history.Laws.{HistoryGoesOn}
 use Rattle.kilim_fiber_laws.proofs.woven_kin.history.Steps.{machine_follows}
 use Rattle.kilim_fiber_laws.specs.woven_kin.Laws.{tree_came}
-use Rattle.kilim_fiber_laws.specs.woven_kin.Nexts.{Next, Goes, Puts, Gets, Probes, Starts, Prints, Rests, Ends, Stands, next_of}
+use Rattle.kilim_fiber_laws.specs.woven_kin.Nexts.{Next, Goes, Puts, Gets, Probes, Starts, Prints, Rests, Ends, Stands, next_of, PutWaits, Bounds}
 use Rattle.kilim_fiber_laws.specs.woven_kin.Standing.{Standing}
 use Rattle.kilim_fiber_spec.specs.Acts.{Action, Lost, Wants}
 use Rattle.kilim_fiber_spec.specs.Fibers.{WStop, Woven_state, wstep, wsteps}
@@ -66,6 +66,8 @@ module _ (set : Setting) (W : Program) (marks : List (List Bool)) where
     onward (Goes y) e = goes y e
     onward (Rests y) e = goes y e
     onward (Puts box root shape y) e = (stops _ y e.0, λ n. behind _ _ (e.1 n))
+    onward (PutWaits box root shape y) e = (stops _ y e.0, λ n. behind _ _ (e.1 n))
+    onward (Bounds box most y) e = (stops _ y e.0, behind _ _ e.1)
     onward (Gets box paused y) e = (
       stops _ y e.0,
       λ rest k more. to rest (suc k) more (state_of t paused rest acts (k ∷ more)) (e.1 rest acts k more),

@@ -1,5 +1,5 @@
 -- A step of the woven machine is what the fiber does next.
-use Rattle.std.proofs.Common.{◌≡◌, ℕ, ◌+◌, ℤ, pos, Bool, true, false, cond, List, [], ◌∷◌, ◌++◌, length, Option, Some, None, refl, sym, ap, subst, ◌∙◌}
+use Rattle.std.proofs.Common.{◌≡◌, ℕ, ◌+◌, ℤ, pos, Bool, true, false, cond, List, [], ◌∷◌, ◌++◌, length, Option, Some, None, refl, sym, ap, subst, ◌∙◌, zero, suc, negsuc}
 use Rattle.std.specs.Prelude.{◌==◌, ◌&&◌, if◌then◌else◌, nat_le, nat_lt, not}
 use Rattle.std.proofs.lemmas.Bool.{false≢true}
 use Rattle.kilim_program.specs.declared.class.Method.{Method}
@@ -32,9 +32,9 @@ use Rattle.kilim_run_model.specs.Lone.{arg_at, box_limit, printed}
 use Rattle.kilim_run_model.specs.State.{Setting}
 use Rattle.kilim_fiber_laws.specs.woven_kin.history.History.{Does, Outcome, state_in, took, world_of}
 use Rattle.kilim_fiber_laws.specs.woven_kin.history.Laws.{MachineFollows}
-use Rattle.kilim_fiber_laws.specs.woven_kin.Nexts.{Next, Goes, Gets, Rests, Ends, Stands, arg_next, asks_next, begins_next, begun_in, begun_with, found_next, finish_next, get_next, message_next, native_next, next_by, next_in, next_of, paused_at, print_next, put_next, resumes_next, spent_or, start_next, stood, taken_at, ticked, yield_next}
+use Rattle.kilim_fiber_laws.specs.woven_kin.Nexts.{Next, Goes, Gets, Rests, Ends, Stands, arg_next, asks_next, begins_next, begun_in, begun_with, found_next, finish_next, get_next, message_next, native_next, next_by, next_in, next_of, paused_at, print_next, put_next, resumes_next, spent_or, start_next, stood, taken_at, ticked, yield_next, put_wait_next, wait_next, bound_next}
 use Rattle.kilim_fiber_laws.specs.woven_kin.Standing.{Standing}
-use Rattle.kilim_fiber_spec.specs.Acts.{Lost, World, counted, ending, gives_arg, native_does, prints, puts, puts_value, receives, starts, with_heap}
+use Rattle.kilim_fiber_spec.specs.Acts.{Lost, World, counted, ending, gives_arg, native_does, prints, puts, puts_value, receives, starts, with_heap, put_waits, waits_value, bounds}
 use Rattle.kilim_fiber_spec.specs.Fibers.{Fib, Fiber_at, Resting, Saved, WRun, WStop, Woven_state, as_member, before, enter, executes_on, first_receiver, gets, handed_does, is_pausing, is_rewinding, marked, marks_of, member_does, rewound, spending_if, tick, wasks, wbegins, wbegins_in, wcode_in, weffect, wfetch, wfinishes, wfound, without_fiber, wnative, wreturns, wresumes, wstep, yields}
 use Rattle.kilim_fiber_spec.specs.Thread.{own_in, own_of, push}
 
@@ -138,6 +138,20 @@ module _ (set : Setting) (W : Program) (marks : List (List Bool)) (t : ℕ) wher
     message_so box Null = ends_at z cause.Null
     message_so box (Ref n) = put_so box n (shape_of set.program z.heap n)
     message_so box _ = λ acts more. refl
+
+    put_wait_so : (box : BoxName) (n : ℕ) (o : Option (List Token)) → Is (λ rest acts ps. put_waits set (here rest acts) WStop (λ after v. go z.fiber after ps v) box n o) (put_wait_next at_call box n o)
+    put_wait_so box n None = ends_at z cause.Large
+    put_wait_so box n (Some shape) = (λ acts more. (here [] acts, refl, refl, refl, refl, refl), λ k rest acts ps. refl)
+
+    wait_so : (box : BoxName) (v : Value) → Is (λ rest acts ps. waits_value set (here rest acts) WStop (λ after u. go z.fiber after ps u) box v) (wait_next set.program at_call box v)
+    wait_so box Null = ends_at z cause.Null
+    wait_so box (Ref n) = put_wait_so box n (shape_of set.program z.heap n)
+    wait_so box _ = λ acts more. refl
+
+    bound_so : (box : BoxName) (i : ℤ) → Is (λ rest acts ps. bounds set (here rest acts) WStop (λ after v. go z.fiber after ps v) box i) (bound_next at_call box i)
+    bound_so box (pos (suc n)) = (λ acts more. (here [] acts, refl, refl, refl, refl, refl), λ rest acts ps. refl)
+    bound_so box (pos zero) = ends_at z cause.Size
+    bound_so box (negsuc n) = ends_at z cause.Size
 
     start_so : (n : ℕ) (o : Option (List Token)) → Is (λ rest acts ps. starts set (here rest acts) WStop (λ after v. go z.fiber after ps v) n o) (start_next at_call n o)
     start_so n None = ends_at z cause.Large
@@ -243,6 +257,8 @@ module _ (set : Setting) (W : Program) (marks : List (List Bool)) (t : ℕ) wher
     native_so native.Yield args o = handed_yield args (without_fiber args) refl
     native_so native.Start (Ref n ∷ []) o = start_so n (shape_of set.program z.heap n)
     native_so native.Put (Box box ∷ v ∷ []) o = message_so box v
+    native_so native.PutWait (Box box ∷ v ∷ []) o = wait_so box v
+    native_so native.Bound (Box box ∷ Int i ∷ []) o = bound_so box i
     native_so native.Getnb (Box box ∷ []) o = probe_so box
     native_so native.Print (v ∷ []) o = print_so (printed v)
     native_so native.ArgCount [] o = λ rest acts ps. refl

@@ -1,5 +1,5 @@
 -- Where the thread is right before it puts or starts a tree, the tree is whole.
-use Rattle.std.proofs.Common.{◌≡◌, cond, ℤ, ℕ, zero, suc, ◌+◌, Bool, true, false, List, [], ◌∷◌, length, Option, Some, None, refl, sym, subst}
+use Rattle.std.proofs.Common.{◌≡◌, cond, ℤ, ℕ, zero, suc, ◌+◌, Bool, true, false, List, [], ◌∷◌, length, Option, Some, None, refl, sym, subst, pos, negsuc}
 use Rattle.std.specs.Prelude.{nat_le, nat_lt}
 use Rattle.std.proofs.lemmas.Bool.{false≢true}
 use Rattle.kilim_program.specs.declared.class.Method.{Method}
@@ -39,7 +39,7 @@ use Rattle.kilim_fiber_laws.proofs.woven_served.ready.Whole.{course, tasks_serve
 use Rattle.kilim_fiber_laws.proofs.receivers.Heaps.{KeepsHeap, keeps_heap}
 use Rattle.kilim_fiber_laws.proofs.receivers.Held.{effect_is}
 use Rattle.kilim_fiber_laws.specs.receivers.Law.{IsBegun}
-use Rattle.kilim_fiber_spec.specs.Acts.{Action, Over, Wants, World, acting, asks, counted, ending, gives_arg, last, native_does, prints, probe_by, put_by, puts, puts_value, receives, start_by, starts, take_by, with_heap}
+use Rattle.kilim_fiber_spec.specs.Acts.{Action, Over, Wants, World, acting, asks, counted, ending, gives_arg, last, native_does, prints, probe_by, put_by, puts, puts_value, receives, start_by, starts, take_by, with_heap, put_wait_by, put_waits, waits_value, bounds}
 use Rattle.kilim_fiber_spec.specs.Acts as action
 use Rattle.kilim_fiber_spec.specs.Fibers.{frame}
 use Rattle.kilim_fiber_spec.specs.Links.{Both, Fw, u_stack, unwoven}
@@ -74,6 +74,10 @@ module _ (set : Setting) where
     put_so box shape n (End c) (d ∷ rest) = tt
     put_so box shape n act rest = tt
 
+    put_wait_so : (box : BoxName) (shape : List Token) (n : ℕ) (act : Act) (rest : List Deed) → Hands (put_wait_by set w Stop (λ after v. Run m q l (push v s) x b after) box shape n act rest)
+    put_wait_so box shape n (Put c k z) rest = tt
+    put_wait_so box shape n act rest = tt
+
     start_so : (shape : List Token) (n : ℕ) (act : Act) (rest : List Deed) → Hands (start_by set w Stop (λ after v. Run m q l (push v s) x b after) shape n act rest)
     start_so shape n (Start t z) rest = tt
     start_so shape n (End c) [] = tt
@@ -99,6 +103,24 @@ module _ (set : Setting) where
         by : (ds : List Deed) → Hands (elim ds [ [] ↦ Stop (action.Wants (action.Puts box n shape) w) | deed ∷ rest ↦ put_by set w Stop (λ after v. Run m q l (push v s) x b after) box shape n deed.act rest ])
         by [] = record { shaped = e; given = tree }
         by (d ∷ rest) = put_so box shape n d.act rest
+
+    put_waits_so : (box : BoxName) (n : ℕ) → IsGivenTree set.program OfMessage w.heap n → (o : Option (List Token)) → shape_of set.program w.heap n ≡ o → Hands (put_waits set w Stop (λ after v. Run m q l (push v s) x b after) box n o)
+    put_waits_so box n tree None e = ended w cause.Large
+    put_waits_so box n tree (Some shape) e = by w.deeds
+      where
+        by : (ds : List Deed) → Hands (elim ds [ [] ↦ Stop (action.Wants (action.PutWaits box n shape) w) | deed ∷ rest ↦ put_wait_by set w Stop (λ after v. Run m q l (push v s) x b after) box shape n deed.act rest ])
+        by [] = record { shaped = e; given = tree }
+        by (d ∷ rest) = put_wait_so box shape n d.act rest
+
+    wait_so : (box : BoxName) (v : Value) → ((kind : Root) (n : ℕ) → given (Some native.PutWait) (Box box ∷ v ∷ []) ≡ Some (kind, n) → IsGivenTree set.program kind w.heap n) → Hands (waits_value set w Stop (λ after v. Run m q l (push v s) x b after) box v)
+    wait_so box Null g = ended w cause.Null
+    wait_so box (Ref n) g = put_waits_so box n (g OfMessage n refl) (shape_of set.program w.heap n) refl
+    wait_so box v g = tt
+
+    bound_so : (box : BoxName) (i : ℤ) → Hands (bounds set w Stop (λ after v. Run m q l (push v s) x b after) box i)
+    bound_so box (pos (suc n)) = acted w (action.Bounds box (suc n)) tt _ (λ d rest. tt)
+    bound_so box (pos zero) = ended w cause.Size
+    bound_so box (negsuc n) = ended w cause.Size
 
     starts_so : (n : ℕ) → IsGivenTree set.program OfTask w.heap n → (o : Option (List Token)) → shape_of set.program w.heap n ≡ o → Hands (starts set w Stop (λ after v. Run m q l (push v s) x b after) n o)
     starts_so n tree None e = ended w cause.Large
@@ -133,6 +155,8 @@ module _ (set : Setting) where
     does_so native.Execute (Ref n ∷ []) g = tt
     does_so native.Start (Ref n ∷ []) g = starts_so n (g OfTask n refl) (shape_of set.program w.heap n) refl
     does_so native.Put (Box box ∷ message ∷ []) g = message_so box message g
+    does_so native.PutWait (Box box ∷ message ∷ []) g = wait_so box message g
+    does_so native.Bound (Box box ∷ Int i ∷ []) g = bound_so box i
     does_so native.Get (Box box ∷ []) g = gets_so box w.deeds
     does_so native.Getnb (Box box ∷ []) g = probes_so box w.deeds
     does_so native.Print (v ∷ []) g = prints_so (printed v)

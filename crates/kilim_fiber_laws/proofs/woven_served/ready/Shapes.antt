@@ -1,5 +1,6 @@
 -- The built-in methods at which a thread may pause: `get` of mailboxes and `yield`.
 use Rattle.std.proofs.Common.{◌≡◌, cond, ℕ, Bool, true, false, List, [], ◌∷◌, length, Some, None, refl, sym, subst, ◌∙◌}
+use Rattle.kilim_run_machine.proofs.Named.{native_is_named}
 use Rattle.std.specs.Prelude.{◌&&◌, codes}
 use Rattle.std.specs.List.{AllByRecursion}
 use Rattle.std.specs.Str.{bytes_eq}
@@ -73,17 +74,13 @@ all_yield n = (other_yield _ refl, (other_yield _ refl, (other_yield _ refl, (ot
 
 module _ (p : Program) (keeps : Keeps p) (form : p.form ≡ Plain) where
   built : (m : Method) (k : Native) → native_method p m ≡ Some k → (m.built_in ≡ true) × (native_named natives (class_name p m.owner) m.name ≡ Some k)
-  built m k e = by m.built_in refl e
-    where
-      by : (z : Bool) → m.built_in ≡ z → cond z (native_named natives (class_name p m.owner) m.name) None ≡ Some k → (m.built_in ≡ true) × (native_named natives (class_name p m.owner) m.name ≡ Some k)
-      by true f e = (f, e)
-      by false f e = absurd (none_native k e)
+  built m k e = native_is_named (class_name p m.owner) m k e
 
   get_named : AllByRecursion (NamedAs native.Get (codes "get")) natives
-  get_named = (λ e. absurd (cc), (λ e. absurd (cc), (λ e. absurd (cc), (λ e. refl, (λ e. absurd (cc), (λ e. absurd (cc), (λ e. absurd (cc), (λ e. absurd (cc), (λ e. absurd (cc), (λ e. absurd (cc), (λ e. absurd (cc), (λ e. absurd (cc), (λ e. absurd (cc), (λ e. absurd (cc), (λ e. absurd (cc), (λ e. absurd (cc), (λ e. absurd (cc), (λ e. absurd (cc), (λ e. absurd (cc), (λ e. absurd (cc), tt))))))))))))))))))))
+  get_named = (λ e. absurd (cc), (λ e. absurd (cc), (λ e. absurd (cc), (λ e. absurd (cc), (λ e. absurd (cc), (λ e. refl, (λ e. absurd (cc), (λ e. absurd (cc), (λ e. absurd (cc), (λ e. absurd (cc), (λ e. absurd (cc), (λ e. absurd (cc), (λ e. absurd (cc), (λ e. absurd (cc), (λ e. absurd (cc), (λ e. absurd (cc), (λ e. absurd (cc), (λ e. absurd (cc), (λ e. absurd (cc), (λ e. absurd (cc), (λ e. absurd (cc), (λ e. absurd (cc), tt))))))))))))))))))))))
 
   yield_named : AllByRecursion (NamedAs native.Yield (codes "yield")) natives
-  yield_named = (λ e. absurd (cc), (λ e. absurd (cc), (λ e. absurd (cc), (λ e. absurd (cc), (λ e. absurd (cc), (λ e. absurd (cc), (λ e. refl, (λ e. absurd (cc), (λ e. absurd (cc), (λ e. absurd (cc), (λ e. absurd (cc), (λ e. absurd (cc), (λ e. absurd (cc), (λ e. absurd (cc), (λ e. absurd (cc), (λ e. absurd (cc), (λ e. absurd (cc), (λ e. absurd (cc), (λ e. absurd (cc), (λ e. absurd (cc), tt))))))))))))))))))))
+  yield_named = (λ e. absurd (cc), (λ e. absurd (cc), (λ e. absurd (cc), (λ e. absurd (cc), (λ e. absurd (cc), (λ e. absurd (cc), (λ e. absurd (cc), (λ e. absurd (cc), (λ e. refl, (λ e. absurd (cc), (λ e. absurd (cc), (λ e. absurd (cc), (λ e. absurd (cc), (λ e. absurd (cc), (λ e. absurd (cc), (λ e. absurd (cc), (λ e. absurd (cc), (λ e. absurd (cc), (λ e. absurd (cc), (λ e. absurd (cc), (λ e. absurd (cc), (λ e. absurd (cc), tt))))))))))))))))))))))
 
   pub get_is : (id : MethodId) (m : Method) → method_at p id ≡ Some m → native_method p m ≡ Some native.Get → IsGet m
   unfolding GetAs

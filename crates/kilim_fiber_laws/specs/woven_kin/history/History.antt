@@ -14,7 +14,7 @@ use Rattle.kilim_run_model.specs.Course.{plain}
 use Rattle.kilim_run_model.specs.declared.deed.Deed.{Deed}
 use Rattle.kilim_run_model.specs.State.{Setting}
 use Rattle.kilim_fiber_laws.specs.woven_kin.Laws.{tree_came, tree_left}
-use Rattle.kilim_fiber_laws.specs.woven_kin.Nexts.{Next, Goes, Puts, Gets, Probes, Starts, Prints, Rests, Ends, Stands, with_result}
+use Rattle.kilim_fiber_laws.specs.woven_kin.Nexts.{Next, Goes, Puts, PutWaits, Bounds, Gets, Probes, Starts, Prints, Rests, Ends, Stands, with_result}
 use Rattle.kilim_fiber_laws.specs.woven_kin.Standing.{Standing}
 use Rattle.kilim_fiber_spec.specs.Acts.{Action, Lost, Wants, World}
 use Rattle.kilim_fiber_spec.specs.Acts as action
@@ -60,6 +60,8 @@ abbrev pub Does : Setting → ℕ → Outcome → Next → Type 0
 Does set t out (Goes y) = (rest : List Deed) (acts : List Act) (ps : List ℕ) → out rest acts ps ≡ state_of t y rest acts ps
 Does set t out (Rests y) = (rest : List Deed) (acts : List Act) (ps : List ℕ) → out rest acts ps ≡ state_of t y rest acts ps
 Does set t out (Puts box root shape y) = StopsAt out (action.Puts box root shape) y × ((n : ℕ) → Leads t out (plain (act.Put box n shape)) (tree_left set.program root y))
+Does set t out (PutWaits box root shape y) = StopsAt out (action.PutWaits box root shape) y × ((n : ℕ) → Leads t out (plain (act.Put box n shape)) (tree_left set.program root y))
+Does set t out (Bounds box most y) = StopsAt out (action.Bounds box most) y × Leads t out (plain (act.Bound box most)) y
 Does set t out (Gets box paused y) =
     StopsAt out (action.Gets box) y
     × ((rest : List Deed) (acts : List Act) (k : ℕ) (ps : List ℕ) → out rest acts (suc k ∷ ps) ≡ state_of t paused rest acts (k ∷ ps))
@@ -97,6 +99,8 @@ module _ (set : Setting) (W : Program) (marks : List (List Bool)) (t : ℕ) (fir
   Follows (Goes y) = Reaches set W marks t first deeds acts y
   Follows (Rests y) = Reaches set W marks t first deeds acts y
   Follows (Puts box root shape y) = ComesTo (action.Puts box root shape) y × ((n : ℕ) → GoesOn (plain (act.Put box n shape)) (tree_left set.program root y))
+  Follows (PutWaits box root shape y) = ComesTo (action.PutWaits box root shape) y × ((n : ℕ) → GoesOn (plain (act.Put box n shape)) (tree_left set.program root y))
+  Follows (Bounds box most y) = ComesTo (action.Bounds box most) y × GoesOn (plain (act.Bound box most)) y
   Follows (Gets box paused y) = ComesTo (action.Gets box) y × Reaches set W marks t first deeds acts paused × GoesOnWith box y
   Follows (Probes box y) = ComesTo (action.Probes box) y × GoesOn (plain (act.Empty box)) (with_result (Some Null) y) × GoesOnWith box y
   Follows (Starts root shape y) = ComesTo (action.Starts root shape) y × ((n : ℕ) → GoesOn (plain (act.Start n shape)) (tree_left set.program root y))

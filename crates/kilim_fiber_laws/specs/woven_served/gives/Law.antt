@@ -29,6 +29,7 @@ pub record IsHandedOut (set : Setting) (kind : Root) (w : World) (root : ℕ) (s
 -- where a tree is put or started next, it is so of that tree
 abbrev pub HandsOut : Setting → Over → Type 0
 HandsOut set (Wants (action.Puts box root shape) w) = IsHandedOut set OfMessage w root shape
+HandsOut set (Wants (action.PutWaits box root shape) w) = IsHandedOut set OfMessage w root shape
 HandsOut set (Wants (action.Starts root shape) w) = IsHandedOut set OfTask w root shape
 HandsOut set o = Unit {0}
 

@@ -2,11 +2,11 @@
 
 ghost use Rattle.std.specs.Prelude.{◌≡◌, codes, Some, IfSome};
 ghost use Rattle.kilim_run_machine.specs.Natives as a_native;
-ghost use Rattle.kilim_run_machine.specs.Natives.{natives, native_named, native_of};
+ghost use Rattle.kilim_run_machine.specs.Natives.{is_built_in_constructor, is_handed_out_of, is_of, natives, native_named, native_of};
 ghost use Rattle.kilim_fiber_steps.specs.records.natives.Natives.{meaning, member_meant};
 
 use kilim_program::lookups::{class_at, method_at};
-use kilim_program::{MethodId, Program};
+use kilim_program::{Method, MethodId, Program};
 use kilim_units::Units;
 
 /// A member of `kilim/Fiber`.
@@ -146,6 +146,27 @@ fn named(class: &Units, name: &Units) -> Option<Native>
     None
 }
 
+fn is_built_in_constructor(method: &Method) -> bool
+    ensures { result ≡ is_built_in_constructor method.now }
+{
+    method.built_in && method.name.is_text(b"<init>") && method.params.is_empty()
+}
+
+fn is_of(class: &Units, name: &[u8], method: &Method) -> bool
+    ensures { result ≡ is_of class.now name.now method.now }
+{
+    method.built_in && class.is_text(name)
+}
+
+fn is_handed_out(class: &Units, method: &Method) -> bool
+    ensures { result ≡ is_handed_out_of class.now method.now }
+{
+    method.built_in
+        && !(is_built_in_constructor(method)
+            || is_of(class, b"java/lang/String", method)
+            || (is_of(class, b"kilim/Sys", method) && method.name.is_text(b"take")))
+}
+
 /// Which built-in method it is, where it is one that is handed out.
 pub fn native_of(program: &Program, id: MethodId) -> Option<Native>
     ensures { IfSome result (λ n. native_of program.now id ≡ Some (meaning n)) }
@@ -153,11 +174,11 @@ pub fn native_of(program: &Program, id: MethodId) -> Option<Native>
     let Some(method) = method_at(program, id) else {
         return None;
     };
-    if !method.built_in {
-        return None;
-    }
     let Some(class) = class_at(program, method.owner) else {
         return None;
     };
+    if !is_handed_out(&class.name, method) {
+        return None;
+    }
     named(&class.name, &method.name)
 }

@@ -1,6 +1,6 @@
 -- What a thread does next carries shapes that can be read.
 use Rattle.std.proofs.Common.{◌≡◌, ℕ, zero, suc, ◌+◌, ℤ, Bool, true, false, cond, List, [], ◌∷◌, Option, Some, None, refl, sym, ap, subst}
-use Rattle.std.specs.Prelude.{nat_lt, nat_le}
+use Rattle.std.specs.Prelude.{pos, nat_lt, nat_le}
 use Rattle.kilim_program.specs.Program.{Program}
 use Rattle.kilim_program.specs.declared.names.BoxName.{BoxName}
 use Rattle.kilim_program.specs.declared.value.Value.{Value}
@@ -19,7 +19,7 @@ use Rattle.kilim_run_model.specs.State.{Setting, Thread, Alive, Ended, begun_on}
 use Rattle.kilim_run_model.proofs.Raised.{raised_has, raises_has, throws_has}
 use Rattle.kilim_run_machine.specs.Raising.{thrown}
 use Rattle.kilim_run_model.specs.Course.{next_action, next_or, next_within}
-use Rattle.kilim_run_model.specs.Lone.{Lone, Next, next_move, thread_next, frames_next, next_by, opens_next, finish_next, begins_next, asks_next, native_next, message_next, put_next, start_next, print_next, printed, arg_next, arg_at, over, went, on_heap, box_limit}
+use Rattle.kilim_run_model.specs.Lone.{Lone, Next, next_move, thread_next, frames_next, next_by, opens_next, finish_next, begins_next, asks_next, native_next, message_next, put_next, put_wait_next, wait_next, bound_next, start_next, print_next, printed, arg_next, arg_at, over, went, on_heap, box_limit}
 use Rattle.kilim_run_model.specs.Lone as next
 use Rattle.kilim_isolation_laws.proofs.at_rest.readable.Shapes.{shape_is_object}
 
@@ -38,6 +38,19 @@ message_read : (p : Program) (l : Lone) (box : BoxName) (v : Value) → CanRead 
 message_read p l box Null = raised_has CanRead l cause.Null tt p (λ object f fs frames done boxes e. tt)
 message_read p l box (Ref n) = put_read p l box n (shape_of p l.heap n) refl
 message_read p l box v = tt
+
+put_wait_read : (p : Program) (l : Lone) (box : BoxName) (n : ℕ) (o : Option (List Token)) → shape_of p l.heap n ≡ o → CanRead (put_wait_next l box n o)
+put_wait_read p l box n None e = tt
+put_wait_read p l box n (Some shape) e = shape_is_object p l.heap n shape e
+
+wait_read : (p : Program) (l : Lone) (box : BoxName) (v : Value) → CanRead (wait_next p l box v)
+wait_read p l box Null = raised_has CanRead l cause.Null tt p (λ object f fs frames done boxes e. tt)
+wait_read p l box (Ref n) = put_wait_read p l box n (shape_of p l.heap n) refl
+wait_read p l box v = tt
+
+bound_read : (p : Program) (l : Lone) (box : BoxName) (i : ℤ) → CanRead (bound_next p l box i)
+bound_read p l box (pos (suc i)) = tt
+bound_read p l box i = raised_has CanRead l cause.Size tt p (λ object f fs frames done boxes e. tt)
 
 start_read : (p : Program) (l : Lone) (n : ℕ) (o : Option (List Token)) → shape_of p l.heap n ≡ o → CanRead (start_next l n o)
 start_read p l n None e = tt
@@ -58,6 +71,8 @@ native_read : (set : Setting) (l : Lone) (n : Native) (args : List Value) → Ca
 native_read set l native.Execute (Ref n ∷ []) = tt
 native_read set l native.Start (Ref n ∷ []) = start_read set.program l n (shape_of set.program l.heap n) refl
 native_read set l native.Put (Box box ∷ v ∷ []) = message_read set.program l box v
+native_read set l native.PutWait (Box box ∷ v ∷ []) = wait_read set.program l box v
+native_read set l native.Bound (Box box ∷ Int i ∷ []) = bound_read set.program l box i
 native_read set l native.Get (Box box ∷ []) = tt
 native_read set l native.Getnb (Box box ∷ []) = tt
 native_read set l native.Print (v ∷ []) = print_read l v

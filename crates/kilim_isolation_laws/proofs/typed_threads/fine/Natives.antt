@@ -1,6 +1,6 @@
 -- What each built-in method gives, by what it does.
 use Rattle.std.proofs.Common.{◌≡◌, ℕ, ◌+◌, true, List, length, Option, Some, None, refl, sym, ap, subst, ◌∙◌, arith}
-use Rattle.std.specs.Prelude.{slice_get, codes, if◌then◌else◌}
+use Rattle.std.specs.Prelude.{slice_get, codes}
 use Rattle.std.specs.List.{AllByRecursion}
 use Rattle.kilim_program.specs.declared.class.Form.TheVariants.{Plain}
 use Rattle.kilim_program.specs.declared.class.Form.{Form}
@@ -11,7 +11,7 @@ use Rattle.kilim_program.specs.BuiltIn.{built_in_methods_in, class_id, class_typ
 use Rattle.kilim_program.specs.Keeps.{Keeps}
 use Rattle.kilim_program.specs.Names.{◌>>=◌, class_name, method_at}
 use Rattle.kilim_program.specs.Program.{Program}
-use Rattle.kilim_run_machine.specs.Natives.{Native, natives, native_named, native_method, native_of}
+use Rattle.kilim_run_machine.specs.Natives.{Native, native_in, native_method, native_of}
 use Rattle.kilim_run_machine.specs.Natives as native
 use Rattle.kilim_type_sound.proofs.BuiltInMembers.{NamedAt, built_in_at, named_at, none_built_in}
 use Rattle.kilim_type_laws.proofs.members.ValueClasses.{all_of_at}
@@ -25,7 +25,7 @@ gives first native.Arg = Some int_type
 gives first n = None
 
 abbrev by_name : Method → List ℕ → Option Native
-by_name m name = if m.built_in then native_named natives name m.name else None
+by_name m name = native_in name m
 
 GivesAs : Program → ℕ → Method → Type 0
 GivesAs p first m = (n : Native) → native_method p m ≡ Some n → m.result ≡ gives first n

@@ -28,7 +28,7 @@ use Rattle.kilim_fiber_laws.specs.Served.{CanServe}
 use Rattle.kilim_fiber_laws.specs.woven_kin.history.History.{Does, Outcome, state_in, state_of, world_of}
 use Rattle.kilim_fiber_laws.proofs.woven_kin.Records.{pausing_same}
 use Rattle.kilim_fiber_laws.specs.woven_kin.Alike.{HasFree, Like, NextLike}
-use Rattle.kilim_fiber_laws.specs.woven_kin.Nexts.{Next, Goes, Puts, Gets, Probes, Starts, Prints, Rests, Ends, Stands, arg_next, asks_next, begins_next, begun_with, found_next, finish_next, get_next, message_next, native_next, next_by, next_in, next_of, opens_next, print_next, put_next, spent_or, start_next, stood, ticked, yield_next}
+use Rattle.kilim_fiber_laws.specs.woven_kin.Nexts.{Next, Goes, Puts, Gets, Probes, Starts, Prints, Rests, Ends, Stands, arg_next, asks_next, begins_next, begun_with, found_next, finish_next, get_next, message_next, native_next, next_by, next_in, next_of, opens_next, print_next, put_next, spent_or, start_next, stood, ticked, yield_next, put_wait_next, wait_next, bound_next, PutWaits, Bounds}
 use Rattle.kilim_fiber_laws.specs.woven_kin.Standing.{Standing}
 use Rattle.kilim_fiber_spec.specs.Acts.{Over, World}
 use Rattle.kilim_fiber_spec.specs.Fibers.{Fib, Fiber_at, Resting, Saved, WStop, is_pausing, is_rewinding, member_does, pausing, rewound, wfetch, wstep, wsteps}
@@ -62,6 +62,18 @@ module _ (set : Setting) (W : Program) (t : ℕ) where
     message_still : (box : BoxName) (v : Value) → StillPauses (message_next set.program z box v)
     message_still box (Ref n) = put_still box n (shape_of set.program z.heap n)
     message_still box _ = tt
+
+    put_wait_still : (box : BoxName) (n : ℕ) (o : Option (List Token)) → StillPauses (put_wait_next z box n o)
+    put_wait_still box n None = tt
+    put_wait_still box n (Some shape) = tt
+
+    wait_still : (box : BoxName) (v : Value) → StillPauses (wait_next set.program z box v)
+    wait_still box (Ref n) = put_wait_still box n (shape_of set.program z.heap n)
+    wait_still box _ = tt
+
+    bound_still : (box : BoxName) (i : ℤ) → StillPauses (bound_next z box i)
+    bound_still box (pos (suc n)) = tt
+    bound_still box _ = tt
 
     start_still : (n : ℕ) (o : Option (List Token)) → StillPauses (start_next z n o)
     start_still n None = tt
@@ -109,6 +121,8 @@ module _ (set : Setting) (W : Program) (t : ℕ) where
     native_still native.ArgCount [] = e
     native_still native.Start (Ref n ∷ []) = start_still n (shape_of set.program z.heap n)
     native_still native.Put (Box box ∷ v ∷ []) = message_still box v
+    native_still native.PutWait (Box box ∷ v ∷ []) = wait_still box v
+    native_still native.Bound (Box box ∷ Int i ∷ []) = bound_still box i
     native_still native.Get (v ∷ Fiber ∷ []) = spent_still true z.done (get_next z v) (get_still v)
     native_still native.Print (v ∷ []) = print_still (printed v)
     native_still native.Yield (Fiber ∷ []) = yield_still (is_rewinding z.fiber)
@@ -177,6 +191,8 @@ module _ (set : Setting) (W : Program) (marks : List (List Bool)) where
     nothing_by (Goes y) d = tt
     nothing_by (Rests y) d = tt
     nothing_by (Puts box root shape y) d = let s = d.0 acts [] in stops _ s.1
+    nothing_by (PutWaits box root shape y) d = let s = d.0 acts [] in stops _ s.1
+    nothing_by (Bounds box most y) d = let s = d.0 acts [] in stops _ s.1
     nothing_by (Gets box paused y) d = let s = d.0 acts [] in stops _ s.1
     nothing_by (Probes box y) d = let s = d.0 acts [] in stops _ s.1
     nothing_by (Starts root shape y) d = let s = d.0 acts [] in stops _ s.1
