@@ -40,8 +40,8 @@ shows_at own e next (Called m n) before after h k q shows = (shows.0, shows.1, s
 shows_at own e next (Asked m n) before after h k q shows = (shows.0, shows.1, still_at before after h k q shows.2)
 shows_at own e next Returned before after h k q shows = (shows.0, still_at before after h k q shows.1)
 shows_at own e next ReturnedValue before after h k q shows = (shows.0, shows.1, still_at before after h k q shows.2)
-shows_at own e next (Raised cause) before after h k q shows = shows
-shows_at own e next (Thrown at class cause) before after h k q shows = shows
+shows_at own e next (Raised cause) before after h k q shows = (shows.0, shows.1, shows.2, refl)
+shows_at own e next (Thrown at class cause) before after h k q shows = (shows.0, shows.1, shows.2, refl)
 shows_at own e next (Ended cause) before after h k q shows = shows
 shows_at own e next NoMemory before after h k q shows = tt
 

@@ -1,11 +1,14 @@
 -- Several steps of a task, some of which count.
-use Rattle.std.specs.Prelude.{◌≡◌, ℕ, suc, ◌<◌, ◌≤◌, Bool, true, false, ◌&&◌, List, ◌∷◌, reverse, take, length}
+use Rattle.std.specs.Prelude.{◌≡◌, ℕ, suc, ◌<◌, ◌≤◌, Bool, true, false, ◌&&◌, List, [], ◌∷◌, Some, reverse, take, length}
 use Rattle.kilim_program.specs.declared.names.MethodId.{MethodId}
 use Rattle.kilim_program.specs.Program.{Program}
+use Rattle.kilim_run_state.specs.declared.cause.EndCause.{EndCause}
 use Rattle.kilim_run_state.specs.Machine.{Activation, Objects}
+use Rattle.kilim_run_machine.specs.Moves.{moves}
 use Rattle.kilim_run_state.specs.declared.frames.frames.Frames.{Frames}
 use Rattle.kilim_run_state.specs.frames.Calls.{calls_of}
 use Rattle.kilim_run_interp.specs.Run.{IsFine, LastSteps, StepsTo}
+use Rattle.kilim_run_interp.specs.Step.{cause_of}
 use Rattle.kilim_run_interp.specs.declared.machine.NativeCall.{NativeCall}
 use Rattle.kilim_run_interp.specs.declared.machine.Stepped.{Stepped}
 use Rattle.kilim_run_interp.specs.declared.machine.Stepped.TheVariants as stepped
@@ -39,6 +42,17 @@ pub record AnswersNext (p : Program) (counted : List (List Bool)) (live : Bool) 
   pub has : NextHas p counted mark calls
   pub step : LastSteps p calls h answer new k
 
+-- the next step raises, throws or ends, with that cause
+abbrev pub LastEnds : Program → List Activation → Objects → EndCause → Type 0
+LastEnds p [] h cause = ⊥
+LastEnds p (top ∷ below) h cause = cause_of (moves p top below h) ≡ Some cause
+
+-- the next instruction has that mark, and may be done, and its step ends so
+pub record EndsNext (p : Program) (counted : List (List Bool)) (live : Bool) (limit steps : ℕ) (calls : List Activation) (h : Objects) (mark : Bool) (cause : EndCause) : Type 0 where
+  pub left : (mark && live) ≡ true → steps < limit
+  pub has : NextHas p counted mark calls
+  pub step : LastEnds p calls h cause
+
 -- the next instruction has that mark and counts, and as many are counted as may be; nothing was changed
 pub record IsSpent (p : Program) (counted : List (List Bool)) (live : Bool) (limit steps : ℕ) (calls : List Activation) (h : Objects) (mark : Bool) (new : Frames) (k : Objects) : Type 0 where
   pub counts : (mark && live) ≡ true
@@ -54,7 +68,7 @@ IsCountedLast p counted live limit steps calls h mark Spent new k = IsSpent p co
 IsCountedLast p counted live limit steps calls h mark NewBox new k = AnswersNext p counted live limit steps calls h mark stepped.NewBox new k
 IsCountedLast p counted live limit steps calls h mark (Asks id) new k = (new.operands ≤ length new.top.stack.values) × AnswersNext p counted live limit steps calls h mark (stepped.AtNative (asked_of id new)) new k
 IsCountedLast p counted live limit steps calls h mark Returned new k = AnswersNext p counted live limit steps calls h mark stepped.Returned new k
-IsCountedLast p counted live limit steps calls h mark (Ended cause) new k = AnswersNext p counted live limit steps calls h mark (stepped.Ended cause) new k
+IsCountedLast p counted live limit steps calls h mark (Ended cause) new k = EndsNext p counted live limit steps calls h mark cause
 
 pub record HasCountedRun (p : Program) (counted : List (List Bool)) (live : Bool) (limit : ℕ) (first : List Activation) (h : Objects) (steps : ℕ) (mark : Bool) (halted : Halted) (new : Frames) (k : Objects) : Type 0 where
   pub calls : List Activation

@@ -10,7 +10,7 @@ use Rattle.kilim_run_state.specs.declared.frames.frames.Frames.{Frames}
 use Rattle.kilim_run_state.specs.frames.Calls.{activation, below_of, calls_of}
 use Rattle.kilim_run_rows.specs.declared.outcome.Moved.{Moved}
 use Rattle.kilim_run_rows.specs.Outcome.{Shows}
-use Rattle.kilim_run_interp.specs.Step.{IsWent, Steps}
+use Rattle.kilim_run_interp.specs.Step.{IsWent, Steps, cause_of}
 use Rattle.kilim_run_interp.specs.declared.machine.Stepped.TheVariants as stepped
 use Rattle.kilim_fiber_steps.specs.Counted.{CountedRunsTo, asked_of, tick_if}
 use Rattle.kilim_fiber_steps.specs.Marks.{IsMark, IsMarked, NextHas}
@@ -130,4 +130,4 @@ Settles m (Some halted.Spent) calls new h k = ⊥
 Settles m (Some halted.NewBox) calls new h k = Steps m stepped.NewBox calls new h k
 Settles m (Some (halted.Asks id)) calls new h k = (new.operands ≤ length new.top.stack.values) × Steps m (stepped.AtNative (asked_of id new)) calls new h k
 Settles m (Some halted.Returned) calls new h k = Steps m stepped.Returned calls new h k
-Settles m (Some (halted.Ended cause)) calls new h k = Steps m (stepped.Ended cause) calls new h k
+Settles m (Some (halted.Ended cause)) calls new h k = cause_of m ≡ Some cause

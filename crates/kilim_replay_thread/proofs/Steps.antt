@@ -3,7 +3,6 @@ use Rattle.std.proofs.Common.{◌≡◌, ℕ, suc, ◌+◌, ◌-◌, ◌<◌, �
 use Rattle.std.specs.FinMap.{insert}
 use Rattle.std.proofs.lemmas.Bool.{lt-leb}
 use Rattle.kilim_program.specs.Program.{Program}
-use Rattle.kilim_run_state.specs.declared.cause.EndCause.{EndCause}
 use Rattle.kilim_run_state.specs.declared.cause.EndCause.TheVariants as cause
 use Rattle.kilim_run_state.specs.declared.value.Object.{Object}
 use Rattle.kilim_program.specs.declared.value.Value.TheVariants.{Ref}
@@ -26,7 +25,7 @@ use Rattle.kilim_run_rows.specs.declared.outcome.Moved.{Moved}
 use Rattle.kilim_run_rows.specs.declared.outcome.Moved.TheVariants as moved
 use Rattle.kilim_run_rows.specs.Outcome.{IsMade, Shows}
 use Rattle.kilim_run_interp.specs.Step as step
-use Rattle.kilim_run_interp.specs.Step.{CanSettle, IsWent, cause_of}
+use Rattle.kilim_run_interp.specs.Step.{CanSettle, IsWent}
 use Rattle.kilim_run_interp.specs.Run.{IsFine}
 use Rattle.kilim_run_interp.proofs.Reading.{can_settle, effect_is}
 use Rattle.kilim_run_model.specs.State.{Setting}
@@ -136,25 +135,6 @@ plain_no own e behind (moved.Raised c) before after h k z s = subst IsNoNew (sym
 plain_no own e behind (moved.Thrown at class c) before after h k z s = subst IsNoNew (sym s.0) tt
 plain_no own e behind (moved.Ended c) before after h k z s = subst IsNoNew (sym s.0) tt
 plain_no own e behind moved.NoMemory before after h k z s = absurd (cc)
-
--- ---- an instruction that isn't settled leaves the heap as it is
-
-no_cause : (m : Move) (c : EndCause) → cause_of m ≡ None → cause_of m ≡ Some c → ⊥
-no_cause m c n s = let z : None ≡ Some c = sym n ∙ s in cc
-
-pub ended_still : (p : Program) (own : Method) (e : Effect) (behind : ℕ) (m : Moved) (before after : Frame) (below : List Activation) (h k : Objects) (c : EndCause) → is_plain m ≡ true → Shows own e behind m before after h k → cause_of (move_by p e (activation before) below) ≡ Some c → k ≡ h
-ended_still p own e behind moved.Next before after below h k c z s w = absurd (no_cause (move_by p e (activation before) below) c (ap (λ (x : Effect). cause_of (move_by p x (activation before) below)) s) w)
-ended_still p own e behind (moved.Jump to) before after below h k c z s w = absurd (no_cause (move_by p e (activation before) below) c (ap (λ (x : Effect). cause_of (move_by p x (activation before) below)) s) w)
-ended_still p own e behind (moved.Made at) before after below h k c z s w = absurd (cc)
-ended_still p own e behind moved.Opened before after below h k c z s w = s.1.heap
-ended_still p own e behind (moved.Called id n) before after below h k c z s w = s.2.heap
-ended_still p own e behind (moved.Asked id n) before after below h k c z s w = s.2.heap
-ended_still p own e behind moved.Returned before after below h k c z s w = s.1.heap
-ended_still p own e behind moved.ReturnedValue before after below h k c z s w = s.2.heap
-ended_still p own e behind (moved.Raised cause) before after below h k c z s w = s.1
-ended_still p own e behind (moved.Thrown at class cause) before after below h k c z s w = s.1
-ended_still p own e behind (moved.Ended cause) before after below h k c z s w = s.1
-ended_still p own e behind moved.NoMemory before after below h k c z s w = absurd (cc)
 
 -- ---- nothing but a call of a built-in method that is handed out asks
 

@@ -122,6 +122,8 @@ fn settled(
         Stepped::Went => Ok(None),
         Stepped::NewBox => Ok(Some(Halted::NewBox)),
         Stepped::Returned => Ok(Some(Halted::Returned)),
+        Stepped::Raised(cause) => Ok(Some(Halted::Ended(cause))),
+        Stepped::Thrown(_, _, cause) => Ok(Some(Halted::Ended(cause))),
         Stepped::Ended(cause) => Ok(Some(Halted::Ended(cause))),
         Stepped::AtNative(_) => unreachable!(),
     }

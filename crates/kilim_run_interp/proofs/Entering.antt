@@ -13,9 +13,9 @@ use Rattle.kilim_run_machine.specs.Moves as move
 use Rattle.kilim_run_machine.specs.Moves.{called, entered, push_result, receiver_of, returned}
 use Rattle.kilim_run_state.specs.declared.frames.frame.Frame.{Frame}
 use Rattle.kilim_run_state.specs.frames.Calls.{activation}
-use Rattle.kilim_run_interp.specs.Step.{IsWent, RanOn, cause_of}
+use Rattle.kilim_run_interp.specs.Step.{IsWent, RanOn}
 
-pub too_deep : (p : Program) (m : MethodId) (args : List Value) (a : Activation) (below : List Frame) (h : Objects) → nat_le 511 (length below) ≡ true → cause_of (called p m args (a ∷ map activation below) h) ≡ Some cause.Depth
+pub too_deep : (p : Program) (m : MethodId) (args : List Value) (a : Activation) (below : List Frame) (h : Objects) → nat_le 511 (length below) ≡ true → called p m args (a ∷ map activation below) h ≡ move.Ends cause.Depth
 too_deep p m args a below h full =
     let same : length (map activation below) ≡ length below = length-map below activation in
     let e : nat_lt (suc (length (map activation below))) 512 ≡ false = grind (arith, full, same) in

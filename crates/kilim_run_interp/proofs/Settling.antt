@@ -13,7 +13,7 @@ use Rattle.kilim_run_state.specs.declared.frames.frame.Frame.{Frame}
 use Rattle.kilim_run_state.specs.declared.frames.frames.Frames.{Frames}
 use Rattle.kilim_run_state.specs.frames.Calls.{activation}
 use Rattle.kilim_run_rows.specs.Outcome.{IsMade, IsStill}
-use Rattle.kilim_run_interp.specs.Step.{IsWent, RanOn, MadeOne, Steps, cause_of}
+use Rattle.kilim_run_interp.specs.Step.{IsWent, RanOn, MadeOne, Steps}
 use Rattle.kilim_run_interp.specs.declared.machine.Stepped.{Stepped}
 
 module _ (p : Program) (e : Effect) (before after : Frame) (below : List Activation) (h k : Objects) where
@@ -46,11 +46,11 @@ module _ (p : Program) (e : Effect) (before after : Frame) (below : List Activat
       subst (λ (z : Objects). Steps (move_by p e (activation after) below) stepped (activation after ∷ below) new z k) still.heap here in
       subst (λ (f : Frame). Steps (move_by p e (activation f) below) stepped (activation f ∷ below) new h k) still.frame there
 
-  pub raises : (c : EndCause) → e ≡ Raises c → cause_of (move_by p e (activation before) below) ≡ Some c
-  raises c is = ap (λ (x : Effect). cause_of (move_by p x (activation before) below)) is
+  pub raises : (c : EndCause) → e ≡ Raises c → move_by p e (activation before) below ≡ move.Raises c
+  raises c is = ap (λ (x : Effect). move_by p x (activation before) below) is
 
-  pub throws : (n : ℕ) (class : ClassId) (c : EndCause) → e ≡ Throws n class c → cause_of (move_by p e (activation before) below) ≡ Some c
-  throws n class c is = ap (λ (x : Effect). cause_of (move_by p x (activation before) below)) is
+  pub throws : (n : ℕ) (class : ClassId) (c : EndCause) → e ≡ Throws n class c → move_by p e (activation before) below ≡ move.Throws n class c
+  throws n class c is = ap (λ (x : Effect). move_by p x (activation before) below) is
 
-  pub ends : (c : EndCause) → e ≡ Ends c → cause_of (move_by p e (activation before) below) ≡ Some c
-  ends c is = ap (λ (x : Effect). cause_of (move_by p x (activation before) below)) is
+  pub ends : (c : EndCause) → e ≡ Ends c → move_by p e (activation before) below ≡ move.Ends c
+  ends c is = ap (λ (x : Effect). move_by p x (activation before) below) is

@@ -1,3 +1,4 @@
 pub mod Step
+pub mod Catching
 pub mod Run
 pub mod instruction

@@ -20,7 +20,7 @@ use Rattle.kilim_run_rows.specs.declared.outcome.Moved.{Moved}
 use Rattle.kilim_run_rows.specs.declared.outcome.Moved.TheVariants.{Called, Asked, ReturnedValue}
 use Rattle.kilim_run_rows.specs.Outcome.{height}
 use Rattle.kilim_run_interp.specs.declared.machine.Stepped.{Stepped}
-use Rattle.kilim_run_interp.specs.declared.machine.Stepped.TheVariants.{Went, NewBox, AtNative, Returned, Ended}
+use Rattle.kilim_run_interp.specs.declared.machine.Stepped.TheVariants.{Went, NewBox, AtNative, Returned, Raised, Thrown, Ended}
 
 -- the cause with which a move raises, throws or ends
 abbrev pub cause_of : Move → Option EndCause
@@ -28,6 +28,11 @@ cause_of (Raises cause) = Some cause
 cause_of (Throws object class cause) = Some cause
 cause_of (Ends cause) = Some cause
 cause_of m = None
+
+-- Frames as they stand at an instruction that raises or throws: but for the operands of the top one they are as before.
+abbrev pub StandsAt : List Activation → Frames → Type 0
+StandsAt [] new = ⊥
+StandsAt (top ∷ below) new = (new.top.method ≡ top.method) × (new.top.pc ≡ top.place) × (new.top.locals ≡ top.locals) × (below_of new ≡ below)
 
 -- the most values on a stack in a method
 abbrev pub limit_in : Option Method → ℕ
@@ -72,7 +77,9 @@ Steps m Went calls new before after = IsWent m (calls_of new) before after
 Steps m NewBox calls new before after = (m ≡ Opens (answered new) before) × IsSame calls new before after
 Steps m (AtNative call) calls new before after = (m ≡ Asks call.method call.args (answered new) before) × IsSame calls new before after
 Steps m Returned calls new before after = (m ≡ Returns before) × IsSame calls new before after
-Steps m (Ended cause) calls new before after = cause_of m ≡ Some cause
+Steps m (Raised cause) calls new before after = (m ≡ Raises cause) × StandsAt calls new × (after ≡ before)
+Steps m (Thrown object class cause) calls new before after = (m ≡ Throws object class cause) × StandsAt calls new × (after ≡ before)
+Steps m (Ended cause) calls new before after = (m ≡ Ends cause) × (after ≡ before)
 
 -- ---- what came of an instruction of the top frame
 

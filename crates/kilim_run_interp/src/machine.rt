@@ -17,7 +17,7 @@ ghost use Rattle.kilim_run_machine.specs.Effect.{Effect};
 ghost use Rattle.kilim_run_state.specs.declared.frames.frame.Frame.{Frame as AFrame};
 
 use kilim_program::lookups::method_at;
-use kilim_program::{Method, MethodId, Program, Value};
+use kilim_program::{ClassId, Method, MethodId, Program, Value};
 use kilim_run_rows::{Moved, narrowed};
 use kilim_run_state::EndCause;
 use kilim_run_state::frames::{Frame, Frames, Locals, Stack};
@@ -46,7 +46,12 @@ pub enum Stepped {
     AtNative(NativeCall),
     /// The last frame returns. Nothing was changed.
     Returned,
-    /// The task ends.
+    /// Something is wrong with a value. Nothing was changed but the operands of the top frame.
+    Raised(EndCause),
+    /// An object of that class is thrown. Where nothing catches it, the task ends with the cause. Nothing was changed but the operands of
+    /// the top frame.
+    Thrown(u32, ClassId, EndCause),
+    /// The task ends. No frame was changed.
     Ended(EndCause),
 }
 
@@ -60,6 +65,17 @@ fn slots_of_method(program: &Program, id: MethodId) -> (usize, usize)
             usize::from(method.max_stack),
         ),
         None => (0, 0),
+    }
+}
+
+// Room for what a method may have on its stack, and for one value at least: what is caught.
+pub(crate) fn stack_room(program: &Program, id: MethodId) -> usize
+    ensures some { 0 < result }
+    ensures limit { stack_limit program.now id ≤ result }
+{
+    match method_at(program, id) {
+        Some(method) => usize::from(method.max_stack).max(1),
+        None => 1,
     }
 }
 
@@ -291,8 +307,8 @@ pub fn settle(
         Moved::Asked(id, count) => hand_out(alloc, id, count, next, frames),
         Moved::Returned => Ok(leave(program, frames)),
         Moved::ReturnedValue => Ok(leave_with(program, own, frames)),
-        Moved::Raised(cause) => Ok(Stepped::Ended(cause)),
-        Moved::Thrown(_, _, cause) => Ok(Stepped::Ended(cause)),
+        Moved::Raised(cause) => Ok(Stepped::Raised(cause)),
+        Moved::Thrown(at, class, cause) => Ok(Stepped::Thrown(at, class, cause)),
         Moved::Ended(cause) => Ok(Stepped::Ended(cause)),
         Moved::NoMemory => Err(NoMemory),
     }

@@ -77,8 +77,8 @@ Shows own e next (Asked m n) before after old new =
     (n ≤ length after.stack.values) × (e ≡ Asks m (reverse (take n after.stack.values)) next after.locals (drop n after.stack.values) new) × IsStill before after old new
 Shows own e next Returned before after old new = (e ≡ Returns None new) × IsStill before after old new
 Shows own e next ReturnedValue before after old new = (0 < length after.stack.values) × (e ≡ Returns (returned_by own after.stack.values) new) × IsStill before after old new
-Shows own e next (Raised cause) before after old new = (e ≡ Raises cause) × (new ≡ old)
-Shows own e next (Thrown at class cause) before after old new = (e ≡ Throws at class cause) × (new ≡ old)
+Shows own e next (Raised cause) before after old new = (e ≡ Raises cause) × (new ≡ old) × (after.locals ≡ before.locals) × (after.pc ≡ before.pc)
+Shows own e next (Thrown at class cause) before after old new = (e ≡ Throws at class cause) × (new ≡ old) × (after.locals ≡ before.locals) × (after.pc ≡ before.pc)
 Shows own e next (Ended cause) before after old new = (e ≡ Ends cause) × (new ≡ old)
 Shows own e next NoMemory before after old new = Unit {0}
 

@@ -1,6 +1,7 @@
-use Rattle.std.proofs.Common.{◌∷◌}
+use Rattle.std.proofs.Common.{◌∷◌, ap}
 use Rattle.kilim_run_state.specs.frames.Calls.{activation, below_of}
 use Rattle.kilim_run_machine.specs.Moves.{move_by}
+use Rattle.kilim_run_interp.specs.Step.{cause_of}
 use Rattle.kilim_fiber_steps.proofs.Counting.{asks_by}
 use Rattle.kilim_fiber_steps.proofs.runs.go_on.Goals as goal
 
@@ -20,4 +21,16 @@ pub returns-in-Returned-clause-settles : goal.returns-in-Returned-clause-settles
 returns-in-Returned-clause-settles c e before h k shows same = rw c.in-Returned.is at (c.in-Ok.ensures.steps e before h k shows same)
 
 pub returns-in-Ended-clause-settles : goal.returns-in-Ended-clause-settles
-returns-in-Ended-clause-settles c e before h k shows same = rw c.in-Ended.is at (c.in-Ok.ensures.steps e before h k shows same)
+returns-in-Ended-clause-settles c e before h k shows same =
+    let told = rw c.in-Ended.is at (c.in-Ok.ensures.steps e before h k shows same) in
+    ap cause_of told.0
+
+pub returns-in-Raised-clause-settles : goal.returns-in-Raised-clause-settles
+returns-in-Raised-clause-settles c e before h k shows same =
+    let told = rw c.in-Raised.is at (c.in-Ok.ensures.steps e before h k shows same) in
+    ap cause_of told.0
+
+pub returns-in-Thrown-clause-settles : goal.returns-in-Thrown-clause-settles
+returns-in-Thrown-clause-settles c e before h k shows same =
+    let told = rw c.in-Thrown.is at (c.in-Ok.ensures.steps e before h k shows same) in
+    ap cause_of told.0

@@ -1,16 +1,34 @@
+use Rattle.std.proofs.Common.{ap}
 use Rattle.kilim_run_state.specs.frames.Calls.{answered, below_of}
-use Rattle.kilim_replay_thread.proofs.Steps.{ended_still, never_asks}
+use Rattle.kilim_run_interp.specs.Step.{cause_of}
+use Rattle.kilim_replay_thread.proofs.Steps.{never_asks}
 use Rattle.kilim_replay_thread.proofs.runs.settled.Goals as goal
 
 pub returns-in-Went : goal.returns-in-Went
 returns-in-Went c = record { roomy = c.in-Ok.ensures.roomy; settles = λ e before h k shows same. rw c.in-Went.is at (c.in-Ok.ensures.steps e before h k shows same) }
+
+pub returns-in-Raised : goal.returns-in-Raised
+returns-in-Raised c = record {
+  roomy = c.in-Ok.ensures.roomy;
+  settles = λ e before h k shows same.
+      let ends = rw c.in-Raised.is at (c.in-Ok.ensures.steps e before h k shows same) in
+      (ap cause_of ends.0, ends.2);
+}
+
+pub returns-in-Thrown : goal.returns-in-Thrown
+returns-in-Thrown c = record {
+  roomy = c.in-Ok.ensures.roomy;
+  settles = λ e before h k shows same.
+      let ends = rw c.in-Thrown.is at (c.in-Ok.ensures.steps e before h k shows same) in
+      (ap cause_of ends.0, ends.2);
+}
 
 pub returns-in-Ended : goal.returns-in-Ended
 returns-in-Ended c = record {
   roomy = c.in-Ok.ensures.roomy;
   settles = λ e before h k shows same.
       let ends = rw c.in-Ended.is at (c.in-Ok.ensures.steps e before h k shows same) in
-      (ends, ended_still c.args.program.now c.args.own.now e c.args.next c.args.moved before c.args.frames.now.top (below_of c.args.frames.now) h k c.in-Ended.cause c.requires.plain shows ends);
+      (ap cause_of ends.0, ends.1);
 }
 
 pub unreachable-requires : goal.unreachable-requires

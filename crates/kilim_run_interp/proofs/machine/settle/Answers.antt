@@ -1,4 +1,4 @@
-use Rattle.std.proofs.Common.{refl, None, List, ◌∷◌, reverse, take, drop}
+use Rattle.std.proofs.Common.{refl, sym, None, List, ◌∷◌, reverse, take, drop}
 use Rattle.kilim_program.specs.declared.value.Value.{Value}
 use Rattle.kilim_run_machine.specs.Effect as effect
 use Rattle.kilim_run_machine.specs.Effect.{Effect}
@@ -34,17 +34,17 @@ returns-in-Opened-clause-steps c e before h k shows same =
 pub returns-in-Raised-clause-steps : goal.returns-in-Raised-clause-steps
 returns-in-Raised-clause-steps c e before h k shows same =
     let told = rw c.in-Raised.is at shows in
-    raises c.args.program.now e before c.args.frames.now.top (below_of c.args.frames.now) h k c.in-Raised.cause (told.0)
+    (raises c.args.program.now e before c.args.frames.now.top (below_of c.args.frames.now) h k c.in-Raised.cause told.0, (sym same, told.3, told.2, refl), told.1)
 
 pub returns-in-Thrown-clause-steps : goal.returns-in-Thrown-clause-steps
 returns-in-Thrown-clause-steps c e before h k shows same =
     let told = rw c.in-Thrown.is at shows in
-    throws c.args.program.now e before c.args.frames.now.top (below_of c.args.frames.now) h k _ _ c.in-Thrown.cause (told.0)
+    (throws c.args.program.now e before c.args.frames.now.top (below_of c.args.frames.now) h k c.in-Thrown.at c.in-Thrown.class c.in-Thrown.cause told.0, (sym same, told.3, told.2, refl), told.1)
 
 pub returns-in-Ended-clause-steps : goal.returns-in-Ended-clause-steps
 returns-in-Ended-clause-steps c e before h k shows same =
     let told = rw c.in-Ended.is at shows in
-    ends c.args.program.now e before c.args.frames.now.top (below_of c.args.frames.now) h k c.in-Ended.cause (told.0)
+    (ends c.args.program.now e before c.args.frames.now.top (below_of c.args.frames.now) h k c.in-Ended.cause told.0, told.1)
 
 pub returns-in-Called-clause-steps : goal.returns-in-Called-clause-steps
 returns-in-Called-clause-steps c e before h k shows same =

@@ -12,7 +12,7 @@ pub returns-in_default-index_in-clause-step : goal.returns-in_default-index_in-c
 returns-in_default-index_in-clause-step c =
     let fits : FitsSigned w32 c.pop_int-i.result = search rules in
     let none : found_in c.args.heap.now c.in-Some.at c.pop_int-i.result ≡ None = simp to_z-of_z at (rw c.in_default-index_in.is at c.index_in.ensures) in
-    (no_long_place c.args.heap.now c.pop_long-x.new.self c.pop_int-i.new.self c.pop_object.new.self c.pop_int-i.result c.in-Some.at c.pop_int-i.ensures (rw c.in-Some.is at c.pop_object.ensures) c.args.program.now c.args.own.now c.args.next c.args.frame.now.locals c.args.frame.now.stack c.pop_long-x.result c.pop_long-x.ensures c.requires.fine none, refl)
+    (no_long_place c.args.heap.now c.pop_long-x.new.self c.pop_int-i.new.self c.pop_object.new.self c.pop_int-i.result c.in-Some.at c.pop_int-i.ensures (rw c.in-Some.is at c.pop_object.ensures) c.args.program.now c.args.own.now c.args.next c.args.frame.now.locals c.args.frame.now.stack c.pop_long-x.result c.pop_long-x.ensures c.requires.fine none, refl, refl, refl)
 
 pub returns-clause-step : goal.returns-clause-step
 returns-clause-step c =

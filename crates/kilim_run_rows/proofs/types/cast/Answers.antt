@@ -18,4 +18,6 @@ returns-else-cast_fits-clause-step c = (
   cast_refused c.args.program.now c.args.own.now c.args.ty.now c.args.next c.args.frame.now.locals c.args.frame.now.stack.values c.args.heap.now c.peek.result.now c.peek.ensures c.in-Ok.class
       (rw c.in-Ok.is at c.type_of.ensures) (sym c.cast_fits.ensures ∙ c.if-cast_fits.false),
   refl,
+  refl,
+  refl,
 )

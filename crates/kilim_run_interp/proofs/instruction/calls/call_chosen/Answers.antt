@@ -29,7 +29,7 @@ returns-in-BuiltIn c =
 pub returns-in-NoReceiver : goal.returns-in-NoReceiver
 returns-in-NoReceiver c =
     let reaches : Reaches c.args.program.now c.args.named.now c.args.method c.peek.result.now c.args.heap.now NoReceiver = rw c.in-NoReceiver.is at c.reached.ensures in
-    record { step = (virtual_null c.args.program.now c.args.own.now c.args.method c.args.named.now c.args.next c.args.frame.now.locals c.args.frame.now.stack.values c.args.heap.now c.requires.there c.peek.result.now c.requires.other (rw c.len-count.ensures at c.peek.ensures) reaches, refl) }
+    record { step = (virtual_null c.args.program.now c.args.own.now c.args.method c.args.named.now c.args.next c.args.frame.now.locals c.args.frame.now.stack.values c.args.heap.now c.requires.there c.peek.result.now c.requires.other (rw c.len-count.ensures at c.peek.ensures) reaches, refl, refl, refl) }
 
 pub unreachable-requires-in-Nowhere : goal.unreachable-requires-in-Nowhere
 unreachable-requires-in-Nowhere c =

@@ -33,7 +33,7 @@ returns-else-target c =
 
 pub returns-then-is_none : goal.returns-then-is_none
 returns-then-is_none c =
-    record { step = (special_null c.args.program.now c.args.own.now c.args.method c.args.named.now c.args.next c.args.frame.now.locals c.args.frame.now.stack.values c.args.heap.now c.requires.there c.peek.result.now c.requires.other (rw c.len-count.ensures at c.peek.ensures) (sym c.is_none.ensures ∙ c.if-is_none.true) c.requires.fine, refl) }
+    record { step = (special_null c.args.program.now c.args.own.now c.args.method c.args.named.now c.args.next c.args.frame.now.locals c.args.frame.now.stack.values c.args.heap.now c.requires.there c.peek.result.now c.requires.other (rw c.len-count.ensures at c.peek.ensures) (sym c.is_none.ensures ∙ c.if-is_none.true) c.requires.fine, refl, refl, refl) }
 
 pub unreachable-requires-in_default : goal.unreachable-requires-in_default
 unreachable-requires-in_default c =

@@ -12,6 +12,8 @@ returns-then-is_none-clause-step c = (
   text_null c.args.named.now (length c.args.named.now.params) c.args.next c.args.frame.now.locals c.args.frame.now.stack.values c.args.heap.now c.peek.result.now
       (rw c.len-count.ensures at c.peek.ensures) (sym c.is_none.ensures ∙ c.if-is_none.true) c.requires.fine,
   refl,
+  refl,
+  refl,
 )
 
 pub unreachable-requires : goal.unreachable-requires
