@@ -46,8 +46,7 @@ fn passing_action(instr: &Instr) -> Action
     ensures { result ≡ passing_action instr.now }
 {
     match instr {
-        Instr::Nop | Instr::Iinc(_, _) | Instr::Goto(_) | Instr::GotoW(_) | Instr::Athrow =>
-            Action::Passes(0, 0),
+        Instr::Nop | Instr::Iinc(_, _) | Instr::Goto(_) | Instr::GotoW(_) => Action::Passes(0, 0),
         Instr::AconstNull
         | Instr::Iconst(_)
         | Instr::Lconst(_)
@@ -76,7 +75,8 @@ fn passing_action(instr: &Instr) -> Action
         | Instr::Ifnull(_)
         | Instr::Ifnonnull(_)
         | Instr::Tableswitch(_, _, _)
-        | Instr::Lookupswitch(_, _) => Action::Passes(1, 0),
+        | Instr::Lookupswitch(_, _)
+        | Instr::Athrow => Action::Passes(1, 0),
         Instr::IfIcmpeq(_)
         | Instr::IfIcmpne(_)
         | Instr::IfIcmplt(_)

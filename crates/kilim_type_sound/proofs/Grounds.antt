@@ -8,6 +8,7 @@ use Rattle.kilim_type_sound.proofs.Selecting as selecting
 use Rattle.kilim_type_laws.proofs.members.Through as lines
 use Rattle.kilim_type_sound.proofs.Tables.{all_wants, live_wants}
 use Rattle.kilim_type_sound.proofs.TextClass as texts
+use Rattle.kilim_type_sound.proofs.Throwables as throwables
 use Rattle.kilim_type_laws.proofs.members.ValueClasses as values
 
 pub facts_hold : FactsHold
@@ -18,6 +19,8 @@ facts_hold p keeps = record {
   no_fields = values.no_fields p keeps;
   constants = keeping.constants p keeps;
   text_class = values.text_class p keeps;
+  thrown = throwables.thrown p keeps;
+  no_thrown = throwables.no_thrown p keeps;
   order = record { itself = keeping.itself p keeps; through = lines.through p keeps };
   superclass = keeping.superclass p keeps;
   values = values.values p keeps;

@@ -13,6 +13,7 @@ pub mod Calls
 pub mod Creation
 pub mod Invokes
 pub mod Fields
+pub mod Throwing
 pub mod Table
 pub mod Narrowed
 pub mod Theorem
@@ -21,6 +22,7 @@ pub mod Tables
 pub mod Bodies
 pub mod BuiltInMembers
 pub mod TextClass
+pub mod Throwables
 pub mod OwnFields
 pub mod Selecting
 pub mod Grounds

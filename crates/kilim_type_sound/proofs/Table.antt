@@ -35,7 +35,8 @@ use Rattle.kilim_type_sound.proofs.Locals.{istore_row, lstore_row, astore_row, i
 use Rattle.kilim_type_sound.proofs.Heap.{load_ints, load_longs, store_ints, store_longs, store_object, length_row, cast_row, instance_row, newarray_row, anewarray_row}
 use Rattle.kilim_type_sound.proofs.Basics.{takes_inverse}
 use Rattle.kilim_type_sound.proofs.Creation.{new_row}
-use Rattle.kilim_type_sound.proofs.Fields.{getstatic_row, getfield_row, putfield_row, missing_is}
+use Rattle.kilim_type_sound.proofs.Fields.{getstatic_row, getfield_row, putfield_row}
+use Rattle.kilim_type_sound.proofs.Throwing.{throw_row}
 use Rattle.kilim_type_sound.proofs.Elements.{element_row}
 use Rattle.kilim_type_sound.proofs.Invokes.{virtual_fits, static_fits, special_fit}
 
@@ -229,4 +230,4 @@ module _ (p : Program) (facts : Facts p) (narrows : Narrows) (m : Method) (of : 
   table_fits (instr.Getfield x) b made proper e = getfield_row p facts narrows m of h heap live at next f g ls vs (instr.Getfield x) b (λ k. refl) (inl refl) x (field_of p x) refl e
   table_fits (instr.Putfield x) b made proper e = putfield_row p facts narrows m of h heap live at next f g ls vs (instr.Putfield x) b (λ k. refl) (inl refl) x (field_of p x) refl e
   table_fits instr.Aaload b made proper e = element_row p facts.order m of h heap live at next f g ls vs instr.Aaload b (λ k. refl) (inl refl) e
-  table_fits instr.Athrow b made proper e = absurd (missing_is p facts narrows m of h heap live at next f g ls vs e)
+  table_fits instr.Athrow b made proper e = throw_row p facts m of h heap live at next f g ls vs instr.Athrow b e

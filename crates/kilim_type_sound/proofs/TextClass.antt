@@ -213,7 +213,7 @@ module _ (p : Program) (keeps : Keeps p) where
   abbrev methods : ℕ
   methods = length keeps.built_in.own_methods
 
-  object_name : (form : Form) → p.form ≡ form → class_name p (class_id n) ≡ codes "java/lang/Object"
+  pub object_name : (form : Form) → p.form ≡ form → class_name p (class_id n) ≡ codes "java/lang/Object"
   object_name form is = let number : n + 0 ≡ n = omega arith in ap (λ (k : ℕ). class_name p (class_id k)) (sym number) ∙ named_at p keeps form is 0 (codes "java/lang/Object") (named_0 form n methods)
 
   all_text : (form : Form) → p.form ≡ form → AllByRecursion (TextOnly p) (built_in_methods_in form n)

@@ -73,6 +73,9 @@ pub record Facts (p : Program) : Type 0 where
   pub constants : (x : FieldId) (field : Field) → field_of p x ≡ Some field → field.is_static ≡ true → constant_fits p field.ty field.constant ≡ true
   -- a class of the string's name is that one
   pub text_class : (c : ClassId) → bytes_eq (class_name p c) (codes "java/lang/String") ≡ true → named_type p (codes "java/lang/String") ≡ Some (class_type c.0)
+  -- what can be thrown is an object of a class, no array, and no string, mailbox or fiber
+  pub thrown : (c : ClassId) → class_named p (codes "java/lang/Throwable") ≡ Some c → (d : ℕ) (b : Base) → fits_type p (record { dims = d; base = b }) (class_type c.0) ≡ true → (k : ClassId) × (d ≡ 0) × (b ≡ base.Class k)
+  pub no_thrown : (c : ClassId) → class_named p (codes "java/lang/Throwable") ≡ Some c → (name : List ℕ) → is_value_name name ≡ true → is_of p (named_type p name) (class_type c.0) ≡ false
   pub order : Ordered p
   -- an object of a class is of its superclass
   pub superclass : (c up : ClassId) → superclass_at (class_at p c) ≡ Some up → fits_type p (class_type c.0) (class_type up.0) ≡ true

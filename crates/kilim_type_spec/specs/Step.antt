@@ -140,6 +140,10 @@ text_type p = vtype_of_class (class_named p (codes "java/lang/String"))
 abbrev pub object_type : Program → VType
 object_type p = vtype_of_class (class_named p (codes "java/lang/Object"))
 
+-- of what can be thrown; in a program without that class null alone
+abbrev pub throwable_type : Program → VType
+throwable_type p = vtype_of_class (class_named p (codes "java/lang/Throwable"))
+
 -- ---- what an instruction takes
 
 pub data Operand : Type 0 where
@@ -465,8 +469,7 @@ row p m (Instanceof ty) = Takes (Is (object_type p) ∷ []) (Int ∷ []) []
 row p m (Ifnull to) = tests_null
 row p m (Ifnonnull to) = tests_null
 row p m (GotoW to) = Takes [] [] []
--- no program has one yet
-row p m Athrow = missing
+row p m Athrow = Takes (Is (throwable_type p) ∷ []) [] []
 
 -- ---- the step
 

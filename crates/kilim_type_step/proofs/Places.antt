@@ -2,11 +2,10 @@
 use Rattle.std.proofs.Common.{◌≡◌, ℕ, List, [], Result, sym, subst, refl}
 use Rattle.kilim_program.specs.declared.class.Method.{Method}
 use Rattle.kilim_program.specs.declared.instr.Instr.{Instr}
-use Rattle.kilim_program.specs.declared.instr.Instr.TheVariants.{Athrow}
 use Rattle.kilim_program.specs.declared.value.Value.{Value}
 use Rattle.kilim_program.specs.declared.value.Value.TheVariants as value
 use Rattle.kilim_program.specs.Program.{Program}
-use Rattle.kilim_type_spec.specs.Step.{Form, Operand, Row, Shuffles, Takes, Types, missing, row, type_step, by_row, constant_row, long_constant_row}
+use Rattle.kilim_type_spec.specs.Step.{Form, Operand, Row, Shuffles, Takes, Types, type_step, by_row, constant_row, long_constant_row}
 use Rattle.kilim_program.specs.declared.verified.VType.{VType}
 use Rattle.kilim_type_step.specs.Answers.{answers}
 use Rattle.kilim_type_step.specs.declared.fault.StepFault.{StepFault}
@@ -35,10 +34,6 @@ plain_place p m at r takes gives f after result is done = subst (λ (x : Row). a
 
 pub shuffle_place : (p : Program) (m : Method) (at : ℕ) (r : Row) (form : Form) (f after : Types) (result : Result Unit StepFault) → r ≡ Shuffles form → answers (by_row p m 0 (Shuffles form) f) result after → answers (by_row p m at r f) result after
 shuffle_place p m at r form f after result is done = subst (λ (x : Row). answers (by_row p m at x f) result after) (sym is) done
-
-pub athrow_place : (p : Program) (m : Method) (at : ℕ) (i : Instr) (f after : Types) (result : Result Unit StepFault) → i ≡ Athrow → answers (by_row p m 0 missing f) result after → answers (type_step p m at i f) result after
-unfolding row
-athrow_place p m at i f after result is done = subst (λ (x : Instr). answers (type_step p m at x f) result after) (sym is) done
 
 -- an instruction that is known
 pub instr_is : (p : Program) (m : Method) (at : ℕ) (i known : Instr) (f after : Types) (result : Result Unit StepFault) → i ≡ known → answers (type_step p m at known f) result after → answers (type_step p m at i f) result after

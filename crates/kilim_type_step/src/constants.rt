@@ -2,7 +2,7 @@
 
 ghost use Rattle.std.specs.Prelude.{◌≡◌, true, IfOk, IfErr};
 ghost use Rattle.kilim_program.specs.Names.{class_named};
-ghost use Rattle.kilim_type_spec.specs.Step.{by_row, type_step, text_type, object_type, vtype_of_class, constant_row, long_constant_row};
+ghost use Rattle.kilim_type_spec.specs.Step.{by_row, type_step, text_type, object_type, throwable_type, vtype_of_class, constant_row, long_constant_row};
 ghost use Rattle.kilim_type_step.specs.Answers.{answers};
 ghost use Rattle.kilim_type_step.specs.Families.{is_constant};
 
@@ -40,6 +40,14 @@ pub fn object_type(program: &Program) -> Result<VType, StepFault>
     ensures memory { IfErr result (λ e. e ≡ StepFault.Memory) }
 {
     named_type(program, b"java/lang/Object")
+}
+
+/// The type of what can be thrown. Want of memory comes only where there are too many classes.
+pub fn throwable_type(program: &Program) -> Result<VType, StepFault>
+    ensures found { IfOk result (λ t. t ≡ throwable_type program.now) }
+    ensures memory { IfErr result (λ e. e ≡ StepFault.Memory) }
+{
+    named_type(program, b"java/lang/Throwable")
 }
 
 fn on_word(

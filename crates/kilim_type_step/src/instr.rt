@@ -10,7 +10,7 @@ use crate::fault::StepFault;
 use crate::jumps::on_reference_jump;
 use crate::locals::on_local;
 use crate::makes::on_made;
-use crate::members::{fail, on_member};
+use crate::members::on_member;
 use crate::plain::on_plain;
 use crate::returns::on_return;
 use crate::shuffles::on_shuffle;
@@ -67,8 +67,8 @@ pub fn type_step(
         | Instr::Newarray(_)
         | Instr::Anewarray(_)
         | Instr::Checkcast(_)
-        | Instr::Instanceof(_) => { on_made(program, method, at, instr, state) }
-        Instr::Athrow => fail(program, method, state),
+        | Instr::Instanceof(_)
+        | Instr::Athrow => { on_made(program, method, at, instr, state) }
         // Arithmetic, constants, jumps that test no reference, and elements of arrays of primitive types.
         _ => on_plain(program, method, at, instr, state),
     }

@@ -7,7 +7,7 @@ ghost use Rattle.kilim_type_step.specs.Answers.{answers};
 ghost use Rattle.kilim_type_step.specs.Families.{is_made};
 
 use crate::apply::{NOT_INITIALIZED, NOT_MADE, STACK_TOO_HIGH, apply, has_room_for};
-use crate::constants::object_type;
+use crate::constants::{object_type, throwable_type};
 use crate::fault::StepFault;
 use crate::operands::{Also, Taken};
 use crate::state::State;
@@ -91,7 +91,7 @@ fn make_array(
     )
 }
 
-/// New objects and arrays, and casts.
+/// New objects and arrays, casts, and what is thrown.
 #[tactic(auto, unfolding(kilim_type_spec::specs::Step::row))]
 pub fn on_made(
     program: &Program,
@@ -145,6 +145,12 @@ pub fn on_made(
                 Some(VType::Int),
                 &[],
             )
+        }
+        Instr::Athrow => {
+            let Ok(throwable) = throwable_type(program) else {
+                return Err(StepFault::Memory);
+            };
+            apply(program, method, state, &[Taken::Is(throwable)], None, &[])
         }
         _ => unreachable!(),
     }

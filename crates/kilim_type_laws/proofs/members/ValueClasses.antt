@@ -291,11 +291,15 @@ module _ (p : Program) (keeps : Keeps p) where
           subst (λ (o : Option Class). (is_empty (elim o [ None ↦ [] | Some class ↦ class.fields ]) && list_all (has_none p) (elim (o >>= λ (class : Class). class.superclass) [ None ↦ [] | Some up ↦ line_up_to p n up ])) ≡ true) (sym there)
           (and_from (is_empty class.fields) _ (ap is_empty plain.0) (up class.superclass plain.1 again))
 
-  pub no_fields : (name : List ℕ) (c : ClassId) → is_value_name name ≡ true → class_named p name ≡ Some c → object_fields p c ≡ []
-  no_fields name c value there =
+  -- a class of values stands behind those of the files
+  pub value_behind : (name : List ℕ) (c : ClassId) → is_value_name name ≡ true → class_named p name ≡ Some c → length own ≤ c.0
+  value_behind name c value there =
       let f = found_is p.classes name 0 c there in
       let number = f.number in
       let named : is_value_name f.class.name ≡ true = ap is_value_name (text_is f.class.name name f.is) ∙ value in
       let at : slice_get (own ++ built) f.place ≡ Some f.class = subst (λ (cs : List Class). slice_get cs f.place ≡ Some f.class) keeps.built_in.classes f.at in
       let after : length own ≤ f.place = not_own own built f.place f.class at (λ k c there. own_is_no_value k c there) named in
-      ap (filter (is_instance_field p)) (none_of_all p (line_of p c) (no_own_fields (length p.classes) c (omega (arith, number, after))))
+      omega (arith, number, after)
+
+  pub no_fields : (name : List ℕ) (c : ClassId) → is_value_name name ≡ true → class_named p name ≡ Some c → object_fields p c ≡ []
+  no_fields name c value there = ap (filter (is_instance_field p)) (none_of_all p (line_of p c) (no_own_fields (length p.classes) c (value_behind name c value there)))

@@ -202,5 +202,17 @@ module _ (P W : Program) (extra : Class) (grown : W.classes ≡ P.classes ++ ext
       by true e again = e
       by false e again = again e
 
+  others_stay : (xs : List Class) (name : List ℕ) (n : ℕ) → bytes_eq extra.name name ≡ false → class_from (xs ++ extra ∷ []) name n ≡ class_from xs name n
+  others_stay [] name n e = ap (λ (b : Bool). cond b (Some (class_id n)) None) e
+  others_stay (x ∷ xs) name n e = by (bytes_eq x.name name) (others_stay xs name (suc n) e)
+    where
+      by : (b : Bool) → class_from (xs ++ extra ∷ []) name (suc n) ≡ class_from xs name (suc n) → cond b (Some (class_id n)) (class_from (xs ++ extra ∷ []) name (suc n)) ≡ cond b (Some (class_id n)) (class_from xs name (suc n))
+      by true again = refl
+      by false again = again
+
+  -- whether there is a class of another name than that of the one more is as before
+  pub class_named_same : (name : List ℕ) → bytes_eq extra.name name ≡ false → class_named W name ≡ class_named P name
+  class_named_same name e = ap (λ (cs : List Class). class_from cs name 0) grown ∙ others_stay P.classes name 0 e
+
   pub class_named_kept : (name : List ℕ) (c : ClassId) → class_named P name ≡ Some c → class_named W name ≡ Some c
   class_named_kept name c e = subst (λ (cs : List Class). class_from cs name 0 ≡ Some c) (sym grown) (first_stays P.classes (extra ∷ []) name 0 c e)

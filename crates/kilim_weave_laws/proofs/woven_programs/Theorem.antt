@@ -47,7 +47,7 @@ use Rattle.kilim_weave_laws.proofs.woven_types.Theorem.{proved}
 use Rattle.kilim_type_laws.proofs.members.FromKeeps.{all_at, itself}
 use Rattle.kilim_type_laws.proofs.members.ValueClasses as values
 use Rattle.kilim_weave_laws.specs.woven_programs.Law.{EachIsShort, KeepsPauses, NoneAcross, WovenProgramsAreTyped}
-use Rattle.kilim_weave_laws.proofs.woven_programs.ClassLists.{assigns, class_kept, class_named_kept, name_is, name_kept, name_of}
+use Rattle.kilim_weave_laws.proofs.woven_programs.ClassLists.{assigns, class_kept, class_named_kept, class_named_same, name_is, name_kept, name_of}
 use Rattle.kilim_weave_laws.proofs.woven_programs.Frames.{by_place}
 use Rattle.kilim_weave_laws.proofs.woven_programs.Methods.{IsFound, Like, fibers, like, members_behind, woven_at}
 use Rattle.kilim_weave_laws.proofs.woven_programs.Naming.{owner_there}
@@ -353,6 +353,7 @@ module _ (P W : Program) (counted : List (List Bool)) (keeps : Keeps P) (plainly
         fields = form.fields;
         text = ap vtype_of_class (class_named_kept P W fiber_parts grown (codes "java/lang/String") string.0 string.1 ∙ sym string.1);
         object = ap vtype_of_class (class_named_kept P W fiber_parts grown (codes "java/lang/Object") (class_id (first_class P)) object_named ∙ sym object_named);
+        throwable = ap vtype_of_class (class_named_same P W fiber_parts grown (codes "java/lang/Throwable") refl);
         makes = makes;
         unchanged = stays;
         changed = changed;

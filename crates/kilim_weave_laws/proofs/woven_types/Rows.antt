@@ -5,7 +5,7 @@ use Rattle.std.proofs.lemmas.List.{map-append, reverse-append}
 use Rattle.kilim_program.specs.declared.class.Field.{Field}
 use Rattle.kilim_program.specs.declared.class.Method.{Method}
 use Rattle.kilim_program.specs.declared.instr.Instr.{Instr}
-use Rattle.kilim_program.specs.declared.instr.Instr.TheVariants.{Ldc, LdcW, Ldc2W, Aastore, Ireturn, Lreturn, Areturn, Return, Getstatic, Getfield, Putfield, Invokevirtual, Invokespecial, Invokestatic, New, Checkcast, Instanceof}
+use Rattle.kilim_program.specs.declared.instr.Instr.TheVariants.{Ldc, LdcW, Ldc2W, Aastore, Ireturn, Lreturn, Areturn, Return, Getstatic, Getfield, Putfield, Invokevirtual, Invokespecial, Invokestatic, New, Checkcast, Instanceof, Athrow}
 use Rattle.kilim_program.specs.declared.names.ClassId.{ClassId}
 use Rattle.kilim_program.specs.declared.names.MethodId.{MethodId}
 use Rattle.kilim_program.specs.declared.names.FieldId.{FieldId}
@@ -17,7 +17,7 @@ use Rattle.kilim_program.specs.declared.verified.VType.TheVariants.{Top, Int, Lo
 use Rattle.kilim_program.specs.Program.{Program}
 use Rattle.kilim_program.specs.Names.{class_named, method_at, field_of}
 use Rattle.kilim_program.specs.Same.{is_constructor}
-use Rattle.kilim_type_spec.specs.Step.{vtype, class_vtype, result_types, object_type, vtype_of_class, arguments, Operand, Is, References, needs, field_row, static_row, virtual_row, special_row, special_by, special_fits, has_int, has_long, constant_row, long_constant_row, Takes, Leaves, Makes, row, may_name}
+use Rattle.kilim_type_spec.specs.Step.{vtype, class_vtype, result_types, object_type, throwable_type, vtype_of_class, arguments, Operand, Is, References, needs, field_row, static_row, virtual_row, special_row, special_by, special_fits, has_int, has_long, constant_row, long_constant_row, Takes, Leaves, Makes, row, may_name}
 use Rattle.kilim_weave_spec.specs.Woven.{moved_type, moved_instr}
 use Rattle.kilim_weave_laws.specs.woven_types.Same.{Shared, Programs}
 use Rattle.kilim_weave_laws.proofs.woven_types.Moved.{moved_operand}
@@ -96,6 +96,9 @@ module _ (P W : Program) (m w : Method) (at : ℕ → ℕ) (same : Shared P W m 
   object_moved : object_type W ≡ moved_type at (object_type P)
   object_moved = progs.object ∙ sym (moved_class at (class_named P _))
 
+  throwable_moved : throwable_type W ≡ moved_type at (throwable_type P)
+  throwable_moved = progs.throwable ∙ sym (moved_class at (class_named P _))
+
   static_moved : (f : FieldId) (o : Option Field) → field_row (Getstatic f) w o ≡ moved_row at (field_row (Getstatic f) m o)
   static_moved f None = refl
   static_moved f (Some field) = let a = moved_vtype at field.ty in let b = same.owner in rw (b, a) refl
@@ -132,6 +135,7 @@ module _ (P W : Program) (m w : Method) (at : ℕ → ℕ) (same : Shared P W m 
   row_moved Aastore s = ap (λ t. Takes (Is t ∷ Is Int ∷ References ∷ []) [] []) object_moved
   row_moved (Checkcast ty) s = ap (λ t. Takes (Is t ∷ []) (Object ty ∷ []) []) object_moved
   row_moved (Instanceof ty) s = ap (λ t. Takes (Is t ∷ []) (Int ∷ []) []) object_moved
+  row_moved Athrow s = ap (λ t. Takes (Is t ∷ []) [] []) throwable_moved
   row_moved Ireturn s = ap (λ r. Leaves (Is Int ∷ []) (needs 11 (has_int r) ∷ [])) same.result
   row_moved Lreturn s = ap (λ r. Leaves (Is Long ∷ []) (needs 11 (has_long r) ∷ [])) same.result
   row_moved Areturn s = let a = same.result in let b = moved_results_operands at m.result in rw (a, b) refl

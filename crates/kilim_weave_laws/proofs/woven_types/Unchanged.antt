@@ -5,7 +5,7 @@ use Rattle.std.specs.Prelude.{◌&&◌, ◌||◌, slice_get, nat_lt}
 use Rattle.std.proofs.lemmas.Bool.{and_parts, and_from}
 use Rattle.kilim_program.specs.declared.class.Method.{Method}
 use Rattle.kilim_program.specs.declared.instr.Instr.{Instr}
-use Rattle.kilim_program.specs.declared.instr.Instr.TheVariants.{Ldc, LdcW, Aastore, Checkcast, Instanceof, Getstatic, Getfield, Putfield, New, Invokestatic, Invokevirtual, Invokespecial}
+use Rattle.kilim_program.specs.declared.instr.Instr.TheVariants.{Ldc, LdcW, Aastore, Checkcast, Instanceof, Getstatic, Getfield, Putfield, New, Invokestatic, Invokevirtual, Invokespecial, Athrow}
 use Rattle.kilim_program.specs.declared.names.ClassId.{ClassId}
 use Rattle.kilim_program.specs.declared.names.MethodId.{MethodId}
 use Rattle.kilim_program.specs.declared.value.Value.{Value}
@@ -143,6 +143,7 @@ module _ (P W : Program) (m : Method) (assigns : (a b : VType) → assignable P 
   row_same Aastore s = ap (λ t. Takes (Is t ∷ Is Int ∷ References ∷ []) [] []) progs.object
   row_same (Checkcast ty) s = ap (λ t. Takes (Is t ∷ []) (Object ty ∷ []) []) progs.object
   row_same (Instanceof ty) s = ap (λ t. Takes (Is t ∷ []) (Int ∷ []) []) progs.object
+  row_same Athrow s = ap (λ t. Takes (Is t ∷ []) [] []) progs.throwable
   row_same (Getstatic f) s = ap (λ fs. field_row (Getstatic f) m (slice_get fs f.0)) progs.fields
   row_same (Getfield f) s = ap (λ fs. field_row (Getfield f) m (slice_get fs f.0)) progs.fields
   row_same (Putfield f) s = ap (λ fs. field_row (Putfield f) m (slice_get fs f.0)) progs.fields

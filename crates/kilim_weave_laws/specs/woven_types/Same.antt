@@ -8,7 +8,7 @@ use Rattle.kilim_program.specs.Names.{class_at}
 use Rattle.kilim_program.specs.Same.{is_constructor}
 use Rattle.kilim_program.specs.declared.names.MethodId.{MethodId}
 use Rattle.kilim_program.specs.Names.{method_at}
-use Rattle.kilim_type_spec.specs.Step.{assignable, made_at, superclass_at, text_type, object_type, may_make, may_name, special_fits}
+use Rattle.kilim_type_spec.specs.Step.{assignable, made_at, superclass_at, text_type, object_type, throwable_type, may_make, may_name, special_fits}
 use Rattle.kilim_weave_spec.specs.Woven.{fiber_ty}
 
 pub record Shared (P W : Program) (m w : Method) (at : ℕ → ℕ) : Type 0 where
@@ -38,6 +38,7 @@ pub record Programs (P W : Program) (m w : Method) : Type 0 where
   pub fields : W.fields ≡ P.fields
   pub text : text_type W ≡ text_type P
   pub object : object_type W ≡ object_type P
+  pub throwable : throwable_type W ≡ throwable_type P
   pub makes : (c : ClassId) → may_make W c (class_at W c) ≡ may_make P c (class_at P c)
   pub unchanged : (id : MethodId) (a : Method) → method_at P id ≡ Some a → a.pausable ≡ false → method_at W id ≡ Some a
   pub changed : (id : MethodId) (a : Method) → method_at P id ≡ Some a → a.pausable ≡ true → (b : Method) × (method_at W id ≡ Some b) × Callee P a b
