@@ -11,6 +11,7 @@ ghost use Rattle.kilim_isolation.specs.Made.{is_new};
 use kilim_isolation_graph::{Graph, turned};
 use kilim_isolation_rules::{Deed, StepFault, any_mixes, deed_of, judge, raised_deed_of};
 use kilim_program::{Frame, Instr, Method, Program, VType};
+use kilim_type_spec::VerifiedFrame;
 use kilim_type_step::{State, StepFault as TypeFault, state_of, type_step};
 use kilim_units::NoMemory;
 use std::alloc::Global;
@@ -30,14 +31,18 @@ fn left(
     alloc: Global,
     program: &Program,
     method: &Method,
-    before: &Frame,
+    before: &VerifiedFrame,
     instr: &Instr,
 ) -> Result<Option<State>, NoMemory>
     ensures { IfOk result (λ left. IsLeft (spec.left_by program.now method.now instr.now (frame_types before.now)) left) }
 {
-    let Ok(mut state) = state_of(alloc, before) else {
+    let Ok(frame) = before.frame(alloc) else {
         return Err(NoMemory);
     };
+    let Ok(mut state) = state_of(alloc, &frame) else {
+        return Err(NoMemory);
+    };
+    drop(frame);
     if is_new(instr) {
         let Ok(()) = state.push(VType::Top) else {
             return Err(NoMemory);
@@ -77,7 +82,7 @@ fn flows_mix(
     alloc: Global,
     program: &Program,
     method: &Method,
-    before: &Frame,
+    before: &VerifiedFrame,
     instr: &Instr,
     after: Option<&Frame>,
 ) -> Result<bool, NoMemory>
@@ -97,18 +102,30 @@ fn flows_mix(
     }
 }
 
+// The types of the stack, the top first.
+fn stack_of(alloc: Global, before: &VerifiedFrame) -> Result<Vec<VType>, NoMemory>
+    ensures { IfOk result (λ types. types.items ≡ (frame_types before.now).stack) }
+{
+    let Ok(stack) = before.stack(alloc) else {
+        return Err(NoMemory);
+    };
+    let types = turned::<VType>(alloc, &stack);
+    drop(stack);
+    types
+}
+
 // What an instruction does to a graph.
 fn deed(
     alloc: Global,
     program: &Program,
     method: &Method,
     graph: &Graph,
-    before: &Frame,
+    before: &VerifiedFrame,
     instr: &Instr,
 ) -> Result<Deed, NoMemory>
     ensures { IfOk result (λ deed. deed ≡ spec.deed program.now method.now graph.now (frame_types before.now) instr.now) }
 {
-    let Ok(types) = turned::<VType>(alloc, before.stack.as_slice()) else {
+    let Ok(types) = stack_of(alloc, before) else {
         return Err(NoMemory);
     };
     let deed = deed_of(alloc, program, method, graph, &types, instr);
@@ -121,12 +138,12 @@ fn raised(
     alloc: Global,
     program: &Program,
     graph: &Graph,
-    before: &Frame,
+    before: &VerifiedFrame,
     instr: &Instr,
 ) -> Result<Deed, NoMemory>
     ensures { IfOk result (λ deed. deed ≡ spec.raised_deed program.now graph.now (frame_types before.now) instr.now) }
 {
-    let Ok(types) = turned::<VType>(alloc, before.stack.as_slice()) else {
+    let Ok(types) = stack_of(alloc, before) else {
         return Err(NoMemory);
     };
     let deed = raised_deed_of(alloc, program, graph, &types, instr);
@@ -135,13 +152,21 @@ fn raised(
 }
 
 // Whether a tree becomes private in a local of the frame that is declared at a handler.
-fn locals_mix(program: &Program, before: &Frame, after: Option<&Frame>) -> bool
-    ensures { result ≡ spec.locals_mix program.now (frame_types before.now) (option_map frame_types (option_copied after.entry)) }
+fn locals_mix(
+    alloc: Global,
+    program: &Program,
+    before: &VerifiedFrame,
+    after: Option<&Frame>,
+) -> Result<bool, NoMemory>
+    ensures { IfOk result (λ mix. mix ≡ spec.locals_mix program.now (frame_types before.now) (option_map frame_types (option_copied after.entry))) }
 {
-    match after {
-        Some(frame) => any_mixes(program, before.locals.as_slice(), frame.locals.as_slice()),
-        None => false,
-    }
+    let Some(frame) = after else {
+        return Ok(false);
+    };
+    let Ok(locals) = before.locals(alloc) else {
+        return Err(NoMemory);
+    };
+    Ok(any_mixes(program, &locals, frame.locals.as_slice()))
 }
 
 /// The graph that an instruction leaves to a handler, or the least of the rules 1, 5, 6 and 7 that it breaks: of a call the
@@ -153,13 +178,16 @@ pub fn to_handler(
     alloc: Global,
     program: &Program,
     graph: &Graph,
-    before: &Frame,
+    before: &VerifiedFrame,
     instr: &Instr,
     after: Option<&Frame>,
 ) -> Result<Graph, StepFault>
     ensures { IsStep (spec.to_handler program.now graph.now (frame_types before.now) instr.now (option_map frame_types (option_copied after.entry))) result }
 {
-    let mixes = locals_mix(program, before, after);
+    let mixes = match locals_mix(alloc, program, before, after) {
+        Ok(mixes) => mixes,
+        Err(NoMemory) => return Err(StepFault::Memory),
+    };
     match raised(alloc, program, graph, before, instr) {
         Ok(deed) => judge(deed, mixes),
         Err(NoMemory) => Err(StepFault::Memory),
@@ -175,7 +203,7 @@ pub fn transfer(
     program: &Program,
     method: &Method,
     graph: &Graph,
-    before: &Frame,
+    before: &VerifiedFrame,
     instr: &Instr,
     after: Option<&Frame>,
 ) -> Result<Graph, StepFault>

@@ -10,7 +10,8 @@ use crate::walk::{exits_at, step};
 use kilim_isolation_graph::Graph;
 use kilim_isolation_paths::{Exit, Moves};
 use kilim_isolation_rules::{StepFault, copied};
-use kilim_program::{Frame, Method, Program};
+use kilim_program::{Method, Program};
+use kilim_type_spec::VerifiedFrame;
 use kilim_units::{NoMemory, Seq};
 use std::alloc::Global;
 
@@ -22,7 +23,7 @@ pub struct Walk<'a> {
     pub method: &'a Method,
     pub code_at: &'a [usize],
     pub frames_at: &'a [usize],
-    pub frames: &'a [Frame],
+    pub frames: &'a [VerifiedFrame],
     pub first: &'a Graph,
     ghost whole: { is_walkable method.now ≡ true },
     ghost coded: { has_code method.now ≡ true },

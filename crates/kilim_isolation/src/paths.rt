@@ -18,8 +18,8 @@ use kilim_isolation_graph::Graph;
 use kilim_isolation_paths::{Explored, Report as PathReport, explore};
 use kilim_isolation_pauses::Report;
 use kilim_program::lookups::method_at;
-use kilim_program::{Frame, Method, MethodId, Program};
-use kilim_type_spec::Typed;
+use kilim_program::{Method, MethodId, Program};
+use kilim_type_spec::{Typed, VerifiedFrame};
 use kilim_units::{NoMemory, Seq};
 use std::alloc::Global;
 
@@ -98,7 +98,7 @@ fn found_from(
     method: &Method,
     code_at: &[usize],
     frames_at: &[usize],
-    frames: &[Frame],
+    frames: &[VerifiedFrame],
     first: &Graph,
 ) -> Result<Explored, NoMemory>
     requires whole { is_walkable method.now ≡ true }
@@ -124,7 +124,7 @@ fn explored(
     alloc: Global,
     program: &Program,
     method: &Method,
-    frames: &[Frame],
+    frames: &[VerifiedFrame],
     first: &Graph,
 ) -> Result<Explored, NoMemory>
     requires whole { is_walkable method.now ≡ true }
@@ -150,7 +150,7 @@ fn walked_from(
     program: &Program,
     id: MethodId,
     method: &Method,
-    frames: &[Frame],
+    frames: &[VerifiedFrame],
     first: &Graph,
 ) -> Result<Seq<Report>, NoMemory>
     requires whole { is_walkable method.now ≡ true }
@@ -170,7 +170,7 @@ fn walked(
     program: &Program,
     id: MethodId,
     method: &Method,
-    frames: &[Frame],
+    frames: &[VerifiedFrame],
 ) -> Result<Seq<Report>, NoMemory>
     requires whole { is_walkable method.now ≡ true }
     requires coded { has_code method.now ≡ true }
@@ -187,13 +187,13 @@ fn walked(
     }
 }
 
-fn frames_of(typed: &Typed, id: MethodId) -> Option<&Seq<Frame>>
+fn frames_of(typed: &Typed, id: MethodId) -> Option<&Seq<VerifiedFrame>>
     ensures { option_copied result ≡ slice_get typed.now.frames id.0 }
 {
     typed.frames.as_slice().get(id.0 as usize)
 }
 
-fn frames_at(typed: &Typed, id: MethodId) -> &[Frame]
+fn frames_at(typed: &Typed, id: MethodId) -> &[VerifiedFrame]
     ensures { result.now ≡ frames_at typed.now id }
 {
     match frames_of(typed, id) {

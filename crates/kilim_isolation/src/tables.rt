@@ -10,6 +10,7 @@ ghost use Rattle.kilim_isolation.specs.Tables.{IsTable, places_of};
 ghost use Rattle.kilim_isolation.specs.Walks as spec;
 
 use kilim_program::{Frame, Instr, Method};
+use kilim_type_spec::VerifiedFrame;
 use kilim_units::NoMemory;
 use std::alloc::Global;
 
@@ -106,9 +107,9 @@ pub fn declared_by<'a>(method: &'a Method, frames_at: &[usize], place: u32) -> O
 pub fn frame_by<'a>(
     method: &Method,
     code_at: &[usize],
-    frames: &'a [Frame],
+    frames: &'a [VerifiedFrame],
     place: u32,
-) -> Option<&'a Frame>
+) -> Option<&'a VerifiedFrame>
     requires table { IsTable code_at.now (places_of method.now.code) method.now.code_length }
     requires place { place < method.now.code_length }
     ensures { option_copied result ≡ spec.frame_among method.now.code frames.now place }

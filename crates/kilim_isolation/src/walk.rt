@@ -20,6 +20,7 @@ use kilim_isolation_graph::Graph;
 use kilim_isolation_paths::Exit;
 use kilim_isolation_rules::StepFault;
 use kilim_program::{Frame, Handler, Instr, Method, MethodId, Program};
+use kilim_type_spec::VerifiedFrame;
 use kilim_units::{NoMemory, Seq};
 use std::alloc::Global;
 
@@ -130,7 +131,7 @@ fn step_by(
     program: &Program,
     method: &Method,
     graph: &Graph,
-    before: &Frame,
+    before: &VerifiedFrame,
     instr: &Instr,
     exit: Exit,
     after: Option<&Frame>,
@@ -171,7 +172,7 @@ pub fn step(
     method: &Method,
     code_at: &[usize],
     frames_at: &[usize],
-    frames: &[Frame],
+    frames: &[VerifiedFrame],
     place: u32,
     graph: &Graph,
     exit: Exit,
@@ -189,9 +190,8 @@ pub fn step(
     match frame_by(method, code_at, frames, place) {
         Some(before) => step_by(alloc, program, method, graph, before, instr, exit, after),
         None => {
-            let nothing = Frame {
-                locals: Seq::new(alloc),
-                stack: Seq::new(alloc),
+            let Ok(nothing) = VerifiedFrame::new(alloc, &[], 0, &[]) else {
+                return Err(StepFault::Memory);
             };
             let stepped = step_by(alloc, program, method, graph, &nothing, instr, exit, after);
             drop(nothing);

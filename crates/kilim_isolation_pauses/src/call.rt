@@ -1,12 +1,15 @@
 //! Calls of pausable methods.
 
-ghost use Rattle.std.specs.Prelude.{◌≡◌, ◌∷◌, [], option_copied, length};
+ghost use Rattle.std.specs.Prelude.{◌≡◌, ◌+◌, ◌||◌, IfOk, option_copied};
 ghost use Rattle.std.specs.List.{list_any};
 ghost use Rattle.kilim_type_spec.specs.Step as step;
 ghost use Rattle.kilim_isolation_pauses.specs.Pausing as spec;
 
 use kilim_program::lookups::method_at;
-use kilim_program::{Frame, Instr, Method, Program, Qualifier, VType};
+use kilim_program::{Instr, Method, Program, Qualifier, VType};
+use kilim_type_spec::VerifiedFrame;
+use kilim_units::NoMemory;
+use std::alloc::Global;
 
 fn is_free(qualifier: Qualifier) -> bool
     ensures { result ≡ spec.is_free qualifier }
@@ -66,18 +69,42 @@ fn any_unset(types: &[VType]) -> bool
     false
 }
 
-/// Whether something isn't initialized in a frame at a call of a pausable method, the arguments left out.
-pub fn uninitialized_below(frame: &Frame, callee: Option<&Method>) -> bool
-    ensures { result ≡ spec.uninitialized_below frame.now (option_copied callee.entry) }
+// Whether something isn't initialized in a frame, its topmost types left out.
+fn uninitialized(
+    alloc: Global,
+    frame: &VerifiedFrame,
+    parameters: usize,
+    receiver: usize,
+) -> Result<bool, NoMemory>
+    ensures { IfOk result (λ unset. unset ≡ (list_any step.is_unset frame.now.locals || list_any step.is_unset (spec.below (parameters + receiver) frame.now))) }
 {
-    let Some(method) = callee else {
-        return false;
+    let Ok(locals) = frame.locals(alloc) else {
+        return Err(NoMemory);
     };
-    let stack = frame.stack.as_slice();
-    let receiver: usize = if method.is_static { 0 } else { 1 };
+    let Ok(stack) = frame.stack(alloc) else {
+        return Err(NoMemory);
+    };
     let left = stack
         .len()
-        .saturating_sub(method.params.len())
+        .saturating_sub(parameters)
         .saturating_sub(receiver);
-    method.pausable && (any_unset(frame.locals.as_slice()) || any_unset(&stack[..left]))
+    Ok(any_unset(&locals) || any_unset(&stack[..left]))
+}
+
+/// Whether something isn't initialized in a frame at a call of a pausable method, the arguments left out.
+pub fn uninitialized_below(
+    alloc: Global,
+    frame: &VerifiedFrame,
+    callee: Option<&Method>,
+) -> Result<bool, NoMemory>
+    ensures { IfOk result (λ unset. unset ≡ spec.uninitialized_below frame.now (option_copied callee.entry)) }
+{
+    let Some(method) = callee else {
+        return Ok(false);
+    };
+    if !method.pausable {
+        return Ok(false);
+    }
+    let receiver: usize = if method.is_static { 0 } else { 1 };
+    uninitialized(alloc, frame, method.params.len(), receiver)
 }

@@ -8,8 +8,8 @@ ghost use Rattle.kilim_isolation_pauses.specs.Pausing as spec;
 use crate::call::{called_by, has_free_receiver, pauses, uninitialized_below};
 use crate::report::Report;
 use kilim_program::lookups::method_at;
-use kilim_program::{Frame, Instr, Method, MethodId, Program};
-use kilim_type_spec::Typed;
+use kilim_program::{Instr, Method, MethodId, Program};
+use kilim_type_spec::{Typed, VerifiedFrame};
 use kilim_units::{NoMemory, Seq};
 use std::alloc::Global;
 
@@ -62,14 +62,14 @@ fn push_at(
     id: MethodId,
     method: &Method,
     placed: &(u32, Instr),
-    frame: &Frame,
+    frame: &VerifiedFrame,
 ) -> Result<(), NoMemory>
     ensures { IfOk result (λ u. reports.new ≡ reports.old ++ spec.reports_at program.now id method.now placed.now frame.now) }
 {
     let callee = called_by(program, &placed.1);
     let in_plain = !method.pausable && pauses(callee);
     push_if(alloc, reports, in_plain, id, placed.0, PAUSABLE_IN_PLAIN)?;
-    let unset = uninitialized_below(frame, callee);
+    let unset = uninitialized_below(alloc, frame, callee)?;
     push_if(alloc, reports, unset, id, placed.0, UNINIT_ACROSS_PAUSE)
 }
 
@@ -79,7 +79,7 @@ fn push_along(
     program: &Program,
     id: MethodId,
     method: &Method,
-    frames: &[Frame],
+    frames: &[VerifiedFrame],
 ) -> Result<(), NoMemory>
     ensures { IfOk result (λ u. reports.new ≡ reports.old ++ spec.reports_along program.now id method.now method.now.code frames.now) }
 {
@@ -96,7 +96,7 @@ fn push_method(
     program: &Program,
     id: MethodId,
     method: &Method,
-    frames: &[Frame],
+    frames: &[VerifiedFrame],
 ) -> Result<(), NoMemory>
     ensures { IfOk result (λ u. reports.new ≡ reports.old ++ spec.method_reports program.now id method.now frames.now) }
 {
@@ -111,7 +111,7 @@ fn push_method(
     push_along(alloc, reports, program, id, method, frames)
 }
 
-fn frames_at(typed: &Typed, id: MethodId) -> Option<&Seq<Frame>>
+fn frames_at(typed: &Typed, id: MethodId) -> Option<&Seq<VerifiedFrame>>
     ensures { option_copied result ≡ slice_get typed.now.frames id.0 }
 {
     typed.frames.as_slice().get(id.0 as usize)

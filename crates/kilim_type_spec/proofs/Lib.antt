@@ -1,2 +1,4 @@
 pub mod FromFaults
 pub mod SameTypes
+pub mod Padded
+pub mod Joined

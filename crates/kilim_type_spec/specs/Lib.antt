@@ -6,3 +6,4 @@ pub mod Samples
 pub mod Examples
 pub mod Laws
 pub mod TypedProgram
+pub mod Parts

@@ -6,7 +6,9 @@
 #![tactic(auto)]
 
 mod flows;
+mod shared;
 mod typed;
+mod verified;
 
 ghost use Rattle.kilim_type_spec.specs.Examples.{ExamplesHold};
 ghost use Rattle.kilim_type_spec.specs.Laws.{NoFaultIsWellTyped};
@@ -14,6 +16,7 @@ ghost use Rattle.kilim_type_spec.specs.Laws.{NoFaultIsWellTyped};
 pub use flows::assignable;
 pub use kilim_program::{Frame, VType};
 pub use typed::Typed;
+pub use verified::VerifiedFrame;
 
 /// A law, and no work: the examples of `specs/Examples.antt`.
 pub fn examples_hold()

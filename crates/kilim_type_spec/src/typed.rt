@@ -1,6 +1,7 @@
 //! A well-typed program.
 
-use kilim_program::{Frame, Program};
+use crate::verified::VerifiedFrame;
+use kilim_program::Program;
 use kilim_units::Seq;
 use std::marker::Model;
 
@@ -12,7 +13,7 @@ pub struct Typed {
     pub program: Program,
     /// For each method, by number, the frame at each of its instructions, in code order: each local up to its number of
     /// locals, the stack from the bottom. None for a method without code.
-    pub frames: Seq<Seq<Frame>>,
+    pub frames: Seq<Seq<VerifiedFrame>>,
 }
 
 impl Model for Typed {

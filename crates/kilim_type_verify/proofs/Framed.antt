@@ -1,9 +1,9 @@
 -- Declared frames, one by one, and the slots of a frame.
-use Rattle.std.proofs.Common.{◌≡◌, ℕ, zero, suc, ◌+◌, ◌-◌, ◌<◌, Bool, true, false, ◌||◌, ◌&&◌, not, cond, refl, ap, sym, ◌∙◌, inl, inr, arith, List, [], ◌∷◌, ◌++◌, length, drop, slice_get, Some}
+use Rattle.std.proofs.Common.{◌≡◌, ℕ, zero, suc, ◌+◌, ◌-◌, ◌<◌, Bool, true, false, ◌||◌, ◌&&◌, not, cond, refl, ap, sym, ◌∙◌, inl, inr, arith, List, [], ◌∷◌, ◌++◌, length, drop, reverse, slice_get, Some}
 use Rattle.std.specs.Prelude.{nat_lt, nat_le}
 use Rattle.std.specs.List.{list_all, list_any}
 use Rattle.std.proofs.lemmas.Bool.{eq-eqb, ne_eqb, cases_lt, lt-ltb, le-ltb}
-use Rattle.std.proofs.lemmas.List.{drop_more, drop-drop, append_assoc}
+use Rattle.std.proofs.lemmas.List.{drop_more, reverse-reverse}
 use Rattle.std.proofs.lemmas.Option.{slice_get_within, get_or_from_slice_get}
 use Rattle.kilim_program.specs.declared.class.Method.{Method}
 use Rattle.kilim_program.specs.declared.instr.Instr.{Instr}
@@ -11,8 +11,8 @@ use Rattle.kilim_program.specs.declared.verified.Frame.{Frame}
 use Rattle.kilim_program.specs.declared.verified.VType.{VType}
 use Rattle.kilim_program.specs.Lengths.{is_code_place}
 use Rattle.kilim_program.specs.Same.{is_constructor}
-use Rattle.kilim_type_spec.specs.Step.{peek, is_top, is_long, is_unset_this, words}
-use Rattle.kilim_type_spec.specs.Typed.{frame_fits, stands_at_new, halves, is_proper, padded}
+use Rattle.kilim_type_spec.specs.Step.{Types, peek, is_top, is_long, is_unset_this, words}
+use Rattle.kilim_type_spec.specs.Typed.{frame_fits, stands_at_new, halves, is_proper, padded, listed}
 use Rattle.kilim_type_spec.specs.Faults.{frame_fault}
 use Rattle.kilim_type_verify.specs.Frames.{half_at, locals_fit, types_fit}
 
@@ -112,24 +112,10 @@ half_on ts k h e = sym (half_here ts k h ∙ ap (λ b. b && halves (drop (k + 1)
 pub half_fails : (ts : List VType) (k : ℕ) → k < length ts → half_at ts k ≡ false → halves (drop k ts) ≡ false
 half_fails ts k h e = half_here ts k h ∙ ap (λ b. b && halves (drop (k + 1) ts)) e
 
--- ---- slots
+-- ---- frames as they are listed
 
-padded_here : (n : ℕ) (ts : List VType) → padded (suc n) ts ≡ peek ts 0 ∷ padded n (drop 1 ts)
-padded_here n [] = refl
-padded_here n (t ∷ ts) = refl
-
-peek_drop : (ts : List VType) (k : ℕ) → peek (drop k ts) 0 ≡ peek ts k
-peek_drop [] zero = refl
-peek_drop [] (suc k) = refl
-peek_drop (t ∷ ts) zero = refl
-peek_drop (t ∷ ts) (suc k) = peek_drop ts k
-
-drop_one : (ts : List VType) (k : ℕ) → drop 1 (drop k ts) ≡ drop (k + 1) ts
-drop_one ts k = drop-drop 1 k ts
-
-pub padded_on : (ts slots : List VType) (count k : ℕ) → k < count → slots ++ padded (count - k) (drop k ts) ≡ padded count ts → (slots ++ peek ts k ∷ []) ++ padded (count - (k + 1)) (drop (k + 1) ts) ≡ padded count ts
-padded_on ts slots count k h e =
-    let one : padded (count - k) (drop k ts) ≡ peek ts k ∷ padded (count - (k + 1)) (drop (k + 1) ts) =
-    ap (λ n. padded n (drop k ts)) (let n : count - k ≡ suc (count - (k + 1)) = omega arith in n) ∙ padded_here (count - (k + 1)) (drop k ts)
-    ∙ ap (λ t. t ∷ padded (count - (k + 1)) (drop 1 (drop k ts))) (peek_drop ts k) ∙ ap (λ xs. peek ts k ∷ padded (count - (k + 1)) xs) (drop_one ts k) in
-    append_assoc slots (peek ts k ∷ []) (padded (count - (k + 1)) (drop (k + 1) ts)) ∙ sym (ap (λ xs. slots ++ xs) one) ∙ e
+-- the stack has its bottom first
+pub listed_is : (m : Method) (f : Types) (locals stack : List VType) → locals ≡ f.locals → f.stack ≡ reverse stack → listed m f ≡ record { locals = padded m.max_locals locals; stack = stack }
+listed_is m f locals stack same turned =
+    ap (λ (xs : List VType). record { locals = padded m.max_locals f.locals; stack = xs }) (ap reverse turned ∙ reverse-reverse stack)
+    ∙ ap (λ (xs : List VType). record { locals = padded m.max_locals xs; stack = stack }) (sym same)

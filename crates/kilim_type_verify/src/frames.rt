@@ -4,14 +4,14 @@ ghost use Rattle.std.specs.Prelude.{◌≡◌, ◌<◌, ℕ, Some, IfOk, length,
 ghost use Rattle.std.specs.List.{list_all, list_any};
 ghost use Rattle.kilim_program.specs.Lengths.{is_code_place};
 ghost use Rattle.kilim_type_spec.specs.Step.{is_top, is_long};
-ghost use Rattle.kilim_type_spec.specs.Typed.{frame_fits, stands_at_new, halves, is_proper, listed, padded};
+ghost use Rattle.kilim_type_spec.specs.Typed.{frame_fits, stands_at_new, halves, is_proper, listed};
 ghost use Rattle.kilim_type_spec.specs.Faults.{frame_fault};
 ghost use Rattle.kilim_type_verify.specs.Frames.{half_at, locals_fit, types_fit};
 
 use crate::stated::entry_at;
 use kilim_program::{Frame, Instr, Method, VType};
+use kilim_type_spec::VerifiedFrame;
 use kilim_type_step::{State, are_within, has_unset_this, is_constructor, made_at, type_at, vtype};
-use kilim_units::Seq;
 use std::alloc::{AllocError, Global};
 
 /// The rule of declared frames.
@@ -201,33 +201,21 @@ pub fn frame_fault(method: &Method) -> Option<u32>
     None
 }
 
-// The first so many slots.
-fn padded(alloc: Global, types: &[VType], count: u16) -> Result<Vec<VType>, AllocError>
-    ensures { IfOk result (λ v. v.items ≡ padded count types.now) }
-{
-    let Ok(mut slots) = Vec::with_capacity(alloc, usize::from(count)) else {
-        return Err(AllocError);
-    };
-    for at in 0..usize::from(count) {
-        let Ok(()) = slots.push(type_at(types, at)) else {
-            return Err(AllocError);
-        };
-    }
-    Ok(slots)
-}
-
-/// A frame as it is listed: each local up to the number of locals, the stack from the bottom.
-pub fn listed(alloc: Global, method: &Method, state: &State) -> Result<Frame, AllocError>
+#[tactic(auto, using(crate::proofs::Framed::listed_is))]
+/// The frame of types, which shares with the one before it, if there is one, what is the same.
+pub fn listed(
+    alloc: Global,
+    method: &Method,
+    state: &State,
+    before: Option<&VerifiedFrame>,
+) -> Result<VerifiedFrame, AllocError>
     ensures { IfOk result (λ frame. frame ≡ listed method.now state.now) }
 {
-    let Ok(locals) = padded(alloc, state.locals(), method.max_locals) else {
-        return Err(AllocError);
-    };
-    let Ok(stack) = Vec::from_slice(alloc, state.stack()) else {
-        return Err(AllocError);
-    };
-    Ok(Frame {
-        locals: Seq::from_vec(locals),
-        stack: Seq::from_vec(stack),
-    })
+    let locals = state.locals();
+    let stack = state.stack();
+    let count = method.max_locals;
+    match before {
+        None => VerifiedFrame::new(alloc, locals, count, stack),
+        Some(frame) => frame.next(alloc, locals, count, stack),
+    }
 }

@@ -4,8 +4,8 @@ ghost use Rattle.std.specs.Prelude.{◌≡◌, ◌<◌, Some, IfOk, length, slic
 ghost use Rattle.kilim_type_verify.specs.Verified.{IsVerified, MethodsWalked};
 
 use crate::walk::{Walked, walk};
-use kilim_program::{Frame, Method, MethodId, Program};
-use kilim_type_spec::Typed;
+use kilim_program::{Method, MethodId, Program};
+use kilim_type_spec::{Typed, VerifiedFrame};
 use kilim_type_step::discard;
 use kilim_units::{NoMemory, Seq, no_room};
 use std::alloc::Global;
@@ -23,7 +23,7 @@ pub enum TypeFault {
 #[derive(Drop)]
 pub enum Methods {
     /// The frames of each method, by number.
-    Frames(Vec<Seq<Frame>>),
+    Frames(Vec<Seq<VerifiedFrame>>),
     /// The first fault: the method, the place, the rule.
     Fault(MethodId, u32, u8),
 }

@@ -12,8 +12,9 @@ ghost use Rattle.kilim_type_verify.specs.Walks.{VisitedUnder, CodeWalked, BodyWa
 use crate::entry::entry_rule;
 use crate::frames::{NO_FIT, code_at, frame_fault, listed};
 use crate::place::{NO_FRAME, fails_unless, is_followed, lesser, step};
-use kilim_program::{Frame, Instr, Method, Program};
+use kilim_program::{Instr, Method, Program};
 use kilim_type_flow::ends_path;
+use kilim_type_spec::VerifiedFrame;
 use kilim_type_step::{State, declared_at, entry_state, state_of};
 use kilim_units::NoMemory;
 use std::alloc::{AllocError, Global};
@@ -31,7 +32,7 @@ pub enum Visited {
 #[derive(Drop)]
 pub enum Walked {
     /// The frames at its instructions, in order.
-    Frames(Vec<Frame>),
+    Frames(Vec<VerifiedFrame>),
     /// The place and the least rule of its first fault.
     Fault(u32, u8),
 }
@@ -80,11 +81,11 @@ fn push_listed(
     alloc: Global,
     method: &Method,
     state: &State,
-    frames: &mut Vec<Frame>,
+    frames: &mut Vec<VerifiedFrame>,
 ) -> Result<(), AllocError>
     ensures { OnOk result (frames.new.items ≡ frames.old.items ++ listed method.now state.now ∷ []) }
 {
-    let Ok(frame) = listed(alloc, method, state) else {
+    let Ok(frame) = listed(alloc, method, state, frames.last()) else {
         return Err(AllocError);
     };
     let Ok(()) = frames.push(frame) else {
@@ -103,7 +104,7 @@ fn visit_under(
     behind: Option<u32>,
     pending: Option<u8>,
     state: State,
-    frames: &mut Vec<Frame>,
+    frames: &mut Vec<VerifiedFrame>,
 ) -> Result<Visited, NoMemory>
     ensures { IfOk result (λ v. (es : List (ℕ × Instr)) → place_of es ≡ behind →
         VisitedUnder program.now method.now pending (Some state) entry.now es frames.old.items frames.new.items v) }
@@ -131,7 +132,7 @@ fn visit_unreached(
     entry: &(u32, Instr),
     behind: Option<u32>,
     pending: Option<u8>,
-    frames: &mut Vec<Frame>,
+    frames: &mut Vec<VerifiedFrame>,
 ) -> Result<Visited, NoMemory>
     ensures { IfOk result (λ v. (p : Program) (es : List (ℕ × Instr)) → place_of es ≡ behind →
         VisitedUnder p method.now pending None entry.now es frames.old.items frames.new.items v) }
@@ -158,7 +159,7 @@ fn visit(
     behind: Option<u32>,
     pending: Option<u8>,
     flow: Option<State>,
-    frames: &mut Vec<Frame>,
+    frames: &mut Vec<VerifiedFrame>,
 ) -> Result<Visited, NoMemory>
     ensures { IfOk result (λ v. (es : List (ℕ × Instr)) → place_of es ≡ behind →
         VisitedUnder program.now method.now pending (arriving flow (declared method.now entry.now.0)) entry.now es frames.old.items frames.new.items v) }

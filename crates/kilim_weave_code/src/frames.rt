@@ -12,6 +12,7 @@ ghost use Rattle.kilim_weave_pieces.specs.Meant.{Ready, meant};
 
 use kilim_program::{ClassId, Frame, Instr, Method, VType};
 use kilim_type_laws::listed_frames_show;
+use kilim_type_spec::VerifiedFrame;
 use kilim_units::{NoMemory, Seq, unmet};
 use kilim_weave_pieces::{Places, Plan, class_vtype, type_at};
 use std::alloc::Global;
@@ -53,7 +54,7 @@ pub fn place_behind(method: &Method, at: usize) -> u32
 }
 
 /// The frame at the instruction of a number. Want of memory comes only where it isn't there.
-pub fn frame_at<'a>(plan: &Plan<'a>, at: usize) -> Result<&'a Frame, NoMemory>
+pub fn frame_at<'a>(plan: &Plan<'a>, at: usize) -> Result<&'a VerifiedFrame, NoMemory>
     requires { Ready plan.now }
     ensures { IfOk result (λ frame. (e : ℕ × Instr) → slice_get plan.now.method.now.code at ≡ Some e → Shown (meant plan.now) e.0 frame.now) }
 {
@@ -66,7 +67,7 @@ pub fn frame_at<'a>(plan: &Plan<'a>, at: usize) -> Result<&'a Frame, NoMemory>
     Ok(frame_of(frames, at))
 }
 
-fn frame_of(frames: &[Frame], at: usize) -> &Frame
+fn frame_of(frames: &[VerifiedFrame], at: usize) -> &VerifiedFrame
     requires { at < length frames.now }
     ensures { slice_get frames.now at ≡ Some result.now }
 {

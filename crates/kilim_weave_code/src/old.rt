@@ -12,6 +12,7 @@ use crate::frames::{entry_of, frame_at, old_frame, place_behind};
 use crate::group::group;
 use crate::moved::{moved, old_size};
 use kilim_program::{Frame, Instr, Method};
+use kilim_type_spec::VerifiedFrame;
 use kilim_units::NoMemory;
 use kilim_weave_pieces::{Item, Items, Label, Plan, pausable_callee};
 use std::alloc::Global;
@@ -30,15 +31,18 @@ fn frame_if(
     plan: &Plan,
     is_needed: bool,
     place: u32,
-    frame: &Frame,
+    verified: &VerifiedFrame,
 ) -> Result<Option<Frame>, NoMemory>
-    requires { Shown (meant plan.now) place frame.now }
+    requires { Shown (meant plan.now) place verified.now }
     ensures { IfOk result (λ f. f ≡ form.frame_if is_needed (meant plan.now) place) }
 {
     if !is_needed {
         return Ok(None);
     }
-    let Ok(declared) = old_frame(alloc, plan, frame, place) else {
+    let Ok(frame) = verified.frame(alloc) else {
+        return Err(NoMemory);
+    };
+    let Ok(declared) = old_frame(alloc, plan, &frame, place) else {
         return Err(NoMemory);
     };
     Ok(Some(declared))
@@ -52,10 +56,10 @@ fn plain(
     place: u32,
     next: u32,
     instr: &Instr,
-    frame: &Frame,
+    verified: &VerifiedFrame,
     items: &mut Items,
 ) -> Result<(), NoMemory>
-    requires { Shown (meant plan.now) place frame.now }
+    requires { Shown (meant plan.now) place verified.now }
     ensures { OnOk result (items_of items.new ≡ form.piece None (meant plan.now) first 0 place next instr.now (items_of items.old)) }
 {
     let Ok(size) = old_size(instr, place, next) else {
@@ -68,7 +72,7 @@ fn plain(
         return Err(NoMemory);
     };
     let is_needed = first || is_declared(plan, place);
-    let Ok(declared) = frame_if(alloc, plan, is_needed, place, frame) else {
+    let Ok(declared) = frame_if(alloc, plan, is_needed, place, verified) else {
         return Err(NoMemory);
     };
     items.put(Item::Stands(Label::Old(place), declared))
@@ -84,17 +88,22 @@ fn piece(
     place: u32,
     next: u32,
     instr: &Instr,
-    frame: &Frame,
+    verified: &VerifiedFrame,
     items: &mut Items,
 ) -> Result<(), NoMemory>
-    requires { Shown (meant plan.now) place frame.now }
+    requires { Shown (meant plan.now) place verified.now }
     ensures { OnOk result (items_of items.new ≡ form.piece (option_copied callee.entry) (meant plan.now) first number place next instr.now (items_of items.old)) }
 {
     match callee {
-        None => plain(alloc, plan, first, place, next, instr, frame, items),
-        Some(callee) => group(
-            alloc, plan, number, callee, place, next, instr, frame, items,
-        ),
+        None => plain(alloc, plan, first, place, next, instr, verified, items),
+        Some(callee) => {
+            let Ok(frame) = verified.frame(alloc) else {
+                return Err(NoMemory);
+            };
+            group(
+                alloc, plan, number, callee, place, next, instr, &frame, items,
+            )
+        }
     }
 }
 

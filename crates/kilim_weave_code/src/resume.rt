@@ -13,6 +13,7 @@ use crate::frames::{entry_of, frame_at, place_behind, resume_frame};
 use crate::group::{below, saved};
 use crate::old::number_before;
 use kilim_program::{Frame, Instr, Method, Ty, VType};
+use kilim_type_spec::VerifiedFrame;
 use kilim_units::NoMemory;
 use kilim_weave_pieces::{
     Item, Items, Label, Plan, add, call_fiber, dummy_of, go_back, pausable_callee, restore_locals,
@@ -120,16 +121,19 @@ fn block(
     number: u32,
     place: u32,
     next: u32,
-    frame: &Frame,
+    verified: &VerifiedFrame,
     items: &mut Items,
 ) -> Result<(), NoMemory>
-    requires { Shown (meant plan.now) place frame.now }
+    requires { Shown (meant plan.now) place verified.now }
     ensures { OnOk result (items_of items.new ≡ form.block (option_copied callee.entry) (meant plan.now) number place next (items_of items.old)) }
 {
     match callee {
         None => Ok(()),
         Some(callee) => {
-            let Ok(()) = resume_code(alloc, plan, callee, place, next, frame, items) else {
+            let Ok(frame) = verified.frame(alloc) else {
+                return Err(NoMemory);
+            };
+            let Ok(()) = resume_code(alloc, plan, callee, place, next, &frame, items) else {
                 return Err(NoMemory);
             };
             let Ok(declared) = resume_frame(alloc, plan) else {

@@ -18,8 +18,9 @@ use crate::copy::{Head, copy_head, with_parts};
 use crate::flags::declared_flags;
 use crate::slots::{argument_slots, fiber_slot, plus};
 use crate::{Laid, lay, nowhere, places_of};
-use kilim_program::{Base, ClassId, Frame, Method, Program, Qualifier, Ty};
+use kilim_program::{Base, ClassId, Method, Program, Qualifier, Ty};
 use kilim_type_flow::LiveTable;
+use kilim_type_spec::VerifiedFrame;
 use kilim_units::{NoMemory, Seq, no_room};
 use kilim_weave_code::{Items, Places, Plan, woven_items};
 use kilim_weave_laws::shape::places_dont_matter;
@@ -83,7 +84,7 @@ fn items_at(
     alloc: Global,
     program: &Program,
     method: &Method,
-    frames: &[Frame],
+    frames: &[VerifiedFrame],
     live: &LiveTable,
     flags: &[bool],
     slots: Slots,
@@ -115,7 +116,7 @@ fn found_places(
     alloc: Global,
     program: &Program,
     method: &Method,
-    frames: &[Frame],
+    frames: &[VerifiedFrame],
     live: &LiveTable,
     flags: &[bool],
     slots: Slots,
@@ -141,7 +142,7 @@ fn placed_items(
     alloc: Global,
     program: &Program,
     method: &Method,
-    frames: &[Frame],
+    frames: &[VerifiedFrame],
     live: &LiveTable,
     flags: &[bool],
     slots: Slots,
@@ -165,7 +166,7 @@ fn laid_out(
     alloc: Global,
     program: &Program,
     method: &Method,
-    frames: &[Frame],
+    frames: &[VerifiedFrame],
     live: &LiveTable,
     slots: Slots,
 ) -> Result<Laid, NoMemory>
@@ -297,7 +298,7 @@ pub fn woven(
     alloc: Global,
     program: &Program,
     method: &Method,
-    frames: &[Frame],
+    frames: &[VerifiedFrame],
     live: &LiveTable,
 ) -> Result<(Method, Seq<bool>), NoMemory>
     requires rising { Rising method.now.code }

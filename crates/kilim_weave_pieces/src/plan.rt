@@ -5,8 +5,9 @@ ghost use Rattle.kilim_weave_spec.specs.Woven.{fiber_slot, self_slot};
 ghost use Rattle.kilim_weave_pieces.specs.Listed.{AreDeclared};
 
 use crate::places::Places;
-use kilim_program::{Frame, Method, Program};
+use kilim_program::{Method, Program};
 use kilim_type_flow::LiveTable;
+use kilim_type_spec::VerifiedFrame;
 
 /// A method, its frames and live slots, and the new places. In contracts `meant` is the plan of the definitions.
 #[derive(Drop)]
@@ -14,7 +15,7 @@ pub struct Plan<'a> {
     pub program: &'a Program,
     pub method: &'a Method,
     /// The frame at each instruction, in code order.
-    pub frames: &'a [Frame],
+    pub frames: &'a [VerifiedFrame],
     pub live: &'a LiveTable,
     /// Whether a frame is declared, by place.
     pub flags: &'a [bool],

@@ -4,9 +4,9 @@ use kilim_case_text::Text;
 use kilim_isolation::transfer;
 use kilim_isolation_graph::{Graph, Label, Node, Standing};
 use kilim_isolation_rules::StepFault;
-use kilim_program::{Frame, Instr, Method, Program};
+use kilim_program::{Instr, Method, Program};
 use kilim_type_flow::ends_path;
-use kilim_type_spec::Typed;
+use kilim_type_spec::{Typed, VerifiedFrame};
 use kilim_units::name_text;
 use std::alloc::Global;
 
@@ -114,7 +114,7 @@ fn next_graph(
     program: &Program,
     method: &Method,
     graph: &Graph,
-    before: &Frame,
+    before: &VerifiedFrame,
     placed: &(u32, Instr),
 ) -> Option<Graph> {
     text.number(placed.0 as usize);
@@ -140,7 +140,7 @@ fn push_next(
     program: &Program,
     method: &Method,
     graph: &mut Graph,
-    before: &Frame,
+    before: &VerifiedFrame,
     placed: &(u32, Instr),
 ) -> bool {
     match next_graph(text, alloc, program, method, graph, before, placed) {
@@ -158,7 +158,7 @@ fn push_path(
     alloc: Global,
     program: &Program,
     method: &Method,
-    frames: &[Frame],
+    frames: &[VerifiedFrame],
     graph: &mut Graph,
 ) {
     for (at, placed) in method.code.as_slice().iter().enumerate() {

@@ -10,8 +10,9 @@ use crate::woven_each::extended::{all_counted, extended, has_calls};
 use crate::woven_each::kept::keeps;
 use crate::{copy_method, woven};
 use kilim_program::lookups::code_rises;
-use kilim_program::{Frame, Method, MethodId, Program};
+use kilim_program::{Method, MethodId, Program};
 use kilim_type_flow::live;
+use kilim_type_spec::VerifiedFrame;
 use kilim_units::{NoMemory, Seq};
 use kilim_weave_laws::woven_program::labels::labels_are_found;
 use std::alloc::Global;
@@ -57,7 +58,7 @@ fn without_calls(
 fn with_calls(
     alloc: Global,
     program: &Program,
-    frames: &[Frame],
+    frames: &[VerifiedFrame],
     id: MethodId,
     method: &Method,
 ) -> Result<(Method, Seq<bool>), NoMemory>
@@ -84,7 +85,7 @@ fn with_calls(
 pub fn woven_each(
     alloc: Global,
     program: &Program,
-    frames: &[Frame],
+    frames: &[VerifiedFrame],
     id: MethodId,
     method: &Method,
 ) -> Result<(Method, Seq<bool>), NoMemory>

@@ -14,9 +14,9 @@ use crate::woven_each::copy::{joined, method_at};
 use crate::woven_each::each::woven_each;
 use crate::woven_each::extended::all_counted;
 use crate::woven_each::kept::keeps;
-use kilim_program::{Form, Frame, Method, MethodId, Program};
+use kilim_program::{Form, Method, MethodId, Program};
 use kilim_type_laws::typed_by_place;
-use kilim_type_spec::Typed;
+use kilim_type_spec::{Typed, VerifiedFrame};
 use kilim_units::{NoMemory, Seq, no_room, unmet};
 use std::alloc::Global;
 
@@ -51,7 +51,7 @@ fn id_of(at: usize) -> Result<MethodId, NoMemory>
     }
 }
 
-fn frames_at(frames: &[Seq<Frame>], at: usize) -> Option<&Seq<Frame>>
+fn frames_at(frames: &[Seq<VerifiedFrame>], at: usize) -> Option<&Seq<VerifiedFrame>>
     ensures { option_copied result ≡ slice_get frames.now at }
 {
     frames.get(at)
@@ -60,10 +60,10 @@ fn frames_at(frames: &[Seq<Frame>], at: usize) -> Option<&Seq<Frame>>
 // The frames of a method. They are always there: that they aren't would be answered as want of memory.
 fn frames_of<'a>(
     program: &Program,
-    frames: &'a [Seq<Frame>],
+    frames: &'a [Seq<VerifiedFrame>],
     id: MethodId,
     method: &Method,
-) -> Result<&'a Seq<Frame>, NoMemory>
+) -> Result<&'a Seq<VerifiedFrame>, NoMemory>
     requires typed { KeepsTyped (record { program = program.now; frames = frames.now }) }
     requires there { method_at program.now id ≡ Some method.now }
     ensures { IfOk result (λ f. has_code method.now ≡ true → Listed program.now method.now f.now) }
@@ -81,7 +81,7 @@ fn frames_of<'a>(
 fn woven_at(
     alloc: Global,
     program: &Program,
-    frames: &[Seq<Frame>],
+    frames: &[Seq<VerifiedFrame>],
     id: MethodId,
     method: &Method,
 ) -> Result<(Method, Seq<bool>), NoMemory>
@@ -97,7 +97,7 @@ fn woven_at(
 fn push_woven(
     alloc: Global,
     program: &Program,
-    frames: &[Seq<Frame>],
+    frames: &[Seq<VerifiedFrame>],
     at: usize,
     all: &mut Methods,
 ) -> Result<(), NoMemory>
@@ -125,7 +125,7 @@ fn push_woven(
 fn woven_each_one(
     alloc: Global,
     program: &Program,
-    frames: &[Seq<Frame>],
+    frames: &[Seq<VerifiedFrame>],
 ) -> Result<Methods, NoMemory>
     requires { KeepsTyped (record { program = program.now; frames = frames.now }) }
     ensures { IfOk result (λ all. IsEachWoven program.now program.now.methods all.methods all.counted) }
@@ -200,7 +200,11 @@ fn with_fiber(alloc: Global, program: &Program, all: Methods) -> Result<Methods,
     }
 }
 
-fn all_woven(alloc: Global, program: &Program, frames: &[Seq<Frame>]) -> Result<Methods, NoMemory>
+fn all_woven(
+    alloc: Global,
+    program: &Program,
+    frames: &[Seq<VerifiedFrame>],
+) -> Result<Methods, NoMemory>
     requires { KeepsTyped (record { program = program.now; frames = frames.now }) }
     ensures { IfOk result (λ all. AllWoven program.now program.now.methods all.methods all.counted) }
 {

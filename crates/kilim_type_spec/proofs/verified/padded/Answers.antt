@@ -1,8 +1,8 @@
 use Rattle.std.proofs.Common.{◌≡◌, ◌∙◌, ◌+◌, ◌-◌, ◌++◌, ◌∷◌, [], sym, ap, drop, arith}
 use Rattle.std.proofs.lemmas.List.{append-nil}
 use Rattle.kilim_type_spec.specs.Typed.{padded}
-use Rattle.kilim_type_verify.proofs.Framed.{padded_on}
-use Rattle.kilim_type_verify.proofs.frames.padded.Goals as goal
+use Rattle.kilim_type_spec.proofs.Padded.{padded_on}
+use Rattle.kilim_type_spec.proofs.verified.padded.Goals as goal
 
 pub loop-at-preserved : goal.loop-at-preserved
 loop-at-preserved c =
