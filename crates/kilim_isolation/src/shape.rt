@@ -81,4 +81,8 @@ impl State for Shape {
     fn is_same(&self, other: &Shape) -> bool {
         self.mark == other.mark && same_graphs(&self.graph, &other.graph)
     }
+
+    fn mark(&self) -> u64 {
+        self.mark
+    }
 }

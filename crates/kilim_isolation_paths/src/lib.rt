@@ -6,6 +6,7 @@
 #![tactic(auto)]
 
 mod found;
+mod held;
 mod machine;
 mod report;
 mod search;

@@ -31,6 +31,9 @@ impl Exit {
 pub trait State: Drop {
     fn is_same(&self, other: &Self) -> bool
         ensures { IsTrue result ↔ (self.now ≡ other.now) };
+
+    /// A number by which different states are mostly told apart. No answer depends on it.
+    fn mark(&self) -> u64;
 }
 
 /// Places, the exits of each, and the steps.

@@ -7,12 +7,27 @@ ghost use Rattle.kilim_isolation_paths.specs.Search.{Good, Took, Visited, Search
 ghost use Rattle.kilim_isolation_paths.specs.declared.store.Reached.{Reached};
 
 use crate::found::{Found, note};
+use crate::held::Held;
 use crate::machine::{Exit, Moves};
-use crate::store::Store;
+use crate::store::{Reached, Store};
 use kilim_units::NoMemory;
 
 /// At most so many different states may reach a place.
 pub const MOST_STATES: usize = 256;
+
+// The step of an entry.
+fn step<M: Moves>(
+    machine: &M,
+    entry: &Reached<Held<M::State>>,
+    exit: Exit,
+) -> Result<Result<M::State, u8>, NoMemory>
+    requires fits { M.fits machine.now entry.now.place entry.now.state }
+    requires exit { Has ((M.means machine.now).exits entry.now.place) exit }
+    ensures step { IfOk result (λ r. r ≡ (M.means machine.now).moves entry.now.place entry.now.state exit) }
+    ensures fits { IfOk result (λ r. IfOk r (λ t. IfSome (target exit) (λ q. M.fits machine.now q t))) }
+{
+    machine.step(entry.place, entry.state.value(), exit)
+}
 
 /// Takes in one step of an entry.
 fn take<M: Moves>(
@@ -30,7 +45,7 @@ fn take<M: Moves>(
 {
     let entry = store.get(at);
     let place = entry.place;
-    let Ok(stepped) = machine.step(place, &entry.state, exit) else {
+    let Ok(stepped) = step(machine, entry, exit) else {
         return Err(NoMemory);
     };
     match stepped {

@@ -6,6 +6,7 @@ ghost use Rattle.kilim_isolation_paths.specs.Paths.{Has};
 ghost use Rattle.kilim_isolation_paths.specs.Search.{states_at, IsAt};
 ghost use Rattle.kilim_isolation_paths.specs.Stored.{positions};
 
+use crate::held::{Held, Shelves};
 use crate::machine::State;
 use kilim_units::NoMemory;
 use std::alloc::Global;
@@ -19,11 +20,12 @@ pub struct Reached<S> {
     pub from: usize,
 }
 
-/// The entries, and for each place which of them stand there.
+/// The entries, and for each place which of them stand there. Those of the same state share it.
 #[derive(Drop)]
 pub struct Store<S> {
-    entries: Vec<Reached<S>>,
+    entries: Vec<Reached<Held<S>>>,
     rows: Vec<Vec<usize>>,
+    shelves: Shelves<S>,
 }
 
 impl<S> Model for Store<S> {
@@ -47,9 +49,13 @@ impl<S: State> Store<S> {
                 return Err(NoMemory);
             };
         }
+        let Ok(shelves) = Shelves::new(alloc, size) else {
+            return Err(NoMemory);
+        };
         Ok(Store {
             entries: Vec::new(alloc),
             rows,
+            shelves,
         })
     }
 
@@ -59,7 +65,7 @@ impl<S: State> Store<S> {
         self.entries.len()
     }
 
-    pub fn get(&self, at: usize) -> &Reached<S>
+    pub fn get(&self, at: usize) -> &Reached<Held<S>>
         requires { at < length self.now.entries }
         ensures { IsAt self.now.entries at result.now }
     {
@@ -80,7 +86,7 @@ impl<S: State> Store<S> {
         ensures { IsTrue result ↔ Has (states_at place self.now.entries) state.now }
     {
         for k in self.row(place) {
-            if self.get(*k).state.is_same(state) {
+            if self.get(*k).state.value().is_same(state) {
                 return true;
             }
         }
@@ -100,6 +106,9 @@ impl<S: State> Store<S> {
         ensures ok { OnOk result (self.new ≡ record self.old { entries = self.old.entries ++ record { place = place; state = state; from = from } ∷ [] }) }
         ensures err { OnErr result (self.new ≡ self.old) }
     {
+        let Ok(state) = self.shelves.held(state) else {
+            return Err(NoMemory);
+        };
         let at = self.entries.len();
         let Ok(()) = self.entries.push(Reached { place, state, from }) else {
             return Err(NoMemory);

@@ -13,4 +13,4 @@ loop-preserved g c = record {
 }
 
 pub invariant_of-result : goal.invariant_of-result
-invariant_of-result g c q row h = c.loop.invariant.empty q row h ∙ sym (ap (λ (es : List (Reached _)). positions q 0 es) c.new-2.ensures.items)
+invariant_of-result g c q row h = c.loop.invariant.empty q row h ∙ sym (ap (λ (es : List (Reached _)). positions q 0 es) c.new-3.ensures.items)
