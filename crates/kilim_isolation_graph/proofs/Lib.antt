@@ -1,3 +1,4 @@
 pub mod Lists
 pub mod Parameters
 pub mod Loops
+pub mod Orders

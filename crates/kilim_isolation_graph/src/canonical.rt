@@ -7,7 +7,7 @@ ghost use Rattle.std.specs.Option.{option_map};
 
 use crate::graph::Graph;
 use crate::node::{Label, Node, node_at};
-use crate::numbers::{firsts, index_of, is_among};
+use crate::order::{Order, firsts};
 use crate::reversed::turned;
 use crate::types::type_at;
 use kilim_program::{Frame, VType};
@@ -44,16 +44,16 @@ fn slots_of(alloc: Global, graph: &Graph) -> Result<Seq<usize>, NoMemory>
     Ok(named)
 }
 
-fn order_of(alloc: Global, graph: &Graph) -> Result<Seq<usize>, NoMemory>
+fn order_of(alloc: Global, graph: &Graph) -> Result<Order, NoMemory>
     ensures { IfOk result (λ order. order ≡ form.order_of graph.now) }
 {
     let Ok(named) = slots_of(alloc, graph) else {
         return Err(NoMemory);
     };
-    firsts(alloc, named.as_slice())
+    firsts(alloc, named.as_slice(), graph.nodes.len())
 }
 
-fn regions_of(alloc: Global, nodes: &[Node], order: &[usize]) -> Result<Seq<usize>, NoMemory>
+fn regions_of(alloc: Global, nodes: &[Node], order: &[usize]) -> Result<Order, NoMemory>
     ensures { IfOk result (λ regions. regions ≡ form.regions_of nodes.now order.now) }
 {
     let mut regions = Seq::new(alloc);
@@ -62,36 +62,36 @@ fn regions_of(alloc: Global, nodes: &[Node], order: &[usize]) -> Result<Seq<usiz
             return Err(NoMemory);
         };
     }
-    firsts(alloc, regions.as_slice())
+    firsts(alloc, regions.as_slice(), nodes.len())
 }
 
 fn parent_in(
     nodes: &[Node],
-    order: &[usize],
+    order: &Order,
     gone: bool,
     parent: Option<(usize, Label)>,
 ) -> Option<(usize, Label)>
     ensures { result ≡ form.parent_in nodes.now order.now gone parent }
 {
     let (holder, label) = parent?;
-    if gone || node_at(nodes, holder).standing.is_gone() || !is_among(order, holder) {
+    if gone || node_at(nodes, holder).standing.is_gone() || !order.is_among(holder) {
         return None;
     }
-    Some((index_of(order, holder), label))
+    Some((order.index_of(holder), label))
 }
 
-fn renumbered(order: &[usize], slot: Option<usize>) -> Option<usize>
+fn renumbered(order: &Order, slot: Option<usize>) -> Option<usize>
     ensures { result ≡ form.renumbered order.now slot }
 {
     match slot {
-        Some(node) => Some(index_of(order, node)),
+        Some(node) => Some(order.index_of(node)),
         None => None,
     }
 }
 
 fn slots_in(
     alloc: Global,
-    order: &[usize],
+    order: &Order,
     slots: &[Option<usize>],
 ) -> Result<Seq<Option<usize>>, NoMemory>
     ensures { IfOk result (λ new. new ≡ map (form.renumbered order.now) slots.now) }
@@ -105,17 +105,18 @@ fn slots_in(
     Ok(new)
 }
 
-fn nodes_in(alloc: Global, nodes: &[Node], order: &[usize]) -> Result<Seq<Node>, NoMemory>
+fn nodes_in(alloc: Global, nodes: &[Node], order: &Order) -> Result<Seq<Node>, NoMemory>
     ensures { IfOk result (λ new. new ≡ map (form.canonical_node nodes.now order.now) order.now) }
 {
-    let Ok(regions) = regions_of(alloc, nodes, order) else {
+    let numbers = order.as_slice();
+    let Ok(regions) = regions_of(alloc, nodes, numbers) else {
         return Err(NoMemory);
     };
     let mut new = Seq::new(alloc);
-    for number in order {
+    for number in numbers {
         let node = node_at(nodes, *number);
         let Ok(()) = new.push(Node {
-            region: index_of(regions.as_slice(), node.region),
+            region: regions.index_of(node.region),
             standing: node.standing,
             head: node.head,
             parent: parent_in(nodes, order, node.standing.is_gone(), node.parent),
@@ -158,7 +159,7 @@ fn kept_names(
 }
 
 // The graph with these nodes alone, numbered in their order.
-fn ordered(alloc: Global, graph: &Graph, order: &[usize]) -> Result<Graph, NoMemory>
+fn ordered(alloc: Global, graph: &Graph, order: &Order) -> Result<Graph, NoMemory>
     ensures { IfOk result (λ new. new ≡ record { locals = map (form.renumbered order.now) graph.now.locals; stack = map (form.renumbered order.now) graph.now.stack; nodes = map (form.canonical_node graph.now.nodes order.now) order.now }) }
 {
     let Ok(locals) = slots_in(alloc, order, graph.locals.as_slice()) else {
@@ -184,7 +185,7 @@ fn canonical_of(alloc: Global, graph: &Graph) -> Result<Graph, NoMemory>
     let Ok(order) = order_of(alloc, graph) else {
         return Err(NoMemory);
     };
-    let new = ordered(alloc, graph, order.as_slice());
+    let new = ordered(alloc, graph, &order);
     drop(order);
     new
 }

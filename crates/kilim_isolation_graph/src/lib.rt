@@ -6,6 +6,7 @@ mod entry;
 mod graph;
 mod node;
 mod numbers;
+mod order;
 mod reversed;
 mod types;
 
