@@ -77,12 +77,27 @@ fn same_graphs(a: &Graph, b: &Graph) -> bool
         && same_slots(a.locals.as_slice(), b.locals.as_slice())
 }
 
+// About how many bytes a graph takes.
+fn weight_of(graph: &Graph) -> usize {
+    let slots = graph.locals.len().saturating_add(graph.stack.len());
+    let nodes = graph.nodes.len().saturating_mul(96);
+    slots.saturating_mul(32).saturating_add(nodes).saturating_add(256)
+}
+
 impl State for Shape {
+    ghost use Rattle.kilim_isolation.specs.Mark.{mark_of};
+
+    ghost marks = { mark_of };
+
     fn is_same(&self, other: &Shape) -> bool {
         self.mark == other.mark && same_graphs(&self.graph, &other.graph)
     }
 
     fn mark(&self) -> u64 {
         self.mark
+    }
+
+    fn weight(&self) -> usize {
+        weight_of(&self.graph)
     }
 }

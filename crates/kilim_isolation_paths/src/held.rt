@@ -1,57 +1,110 @@
 //! States that entries share.
 
-ghost use Rattle.std.specs.Prelude.{◌≡◌, IfOk, IfSome, Some, slice_get};
+ghost use Rattle.std.specs.Prelude.{◌≡◌, ◌↔◌, IsTrue, IfOk, IfSome, Some, slice_get};
 
 use crate::machine::State;
-use kilim_units::NoMemory;
+use kilim_units::{NoMemory, unmet};
 use std::alloc::Global;
 use std::marker::Model;
+use std::snapshot::Snapshot;
 use std::sync::Arc;
 
-/// A state, which several entries may share.
+/// A state, which several entries may share. It may be forgotten, so that its memory can be used again; contracts see it still.
 #[derive(Drop)]
-pub struct Held<S> {
-    state: Arc<S, Global>,
+pub struct Held<S: State> {
+    state: Option<Arc<S, Global>>,
+    mark: u64,
+    seen: Snapshot<S>,
 }
 
-impl<S> Model for Held<S> {
+impl<S: State> Model for Held<S> {
+    ghost use Rattle.std.specs.Prelude.{◌≡◌, IfSome};
+
     ghost Value = { S };
 
-    ghost view = { λ h. h.state.value };
+    ghost view = { λ h. h.seen.value };
+
+    ghost invariant = { λ h. IfSome h.state (λ a. a.value ≡ h.seen.value) × (h.mark ≡ S.marks h.seen.value) };
 }
 
-impl<S: Drop> Held<S> {
+fn inner<S: State>(state: &Arc<S, Global>) -> &S
+    ensures { result.now ≡ state.now.value }
+{
+    state
+}
+
+impl<S: State> Held<S> {
     fn new(alloc: Global, state: S) -> Result<Held<S>, NoMemory>
         ensures { IfOk result (λ held. held ≡ state) }
     {
+        let mark = state.mark();
+        let seen = Snapshot::of(&state);
         let Ok(state) = Arc::new(alloc, state) else {
             return Err(NoMemory);
         };
-        Ok(Held { state })
+        Ok(Held {
+            state: Some(state),
+            mark,
+            seen,
+        })
     }
 
+    // The same, where it isn't forgotten.
     fn share(&self) -> Result<Held<S>, NoMemory>
         ensures { IfOk result (λ held. held ≡ self.now) }
     {
-        let Ok(state) = Arc::try_clone(&self.state) else {
+        let Some(state) = &self.state else {
+            // unmet: what stands on a shelf isn't forgotten
+            return Err(unmet());
+        };
+        let Ok(again) = Arc::try_clone(state) else {
             return Err(NoMemory);
         };
-        Ok(Held { state })
+        let seen = Snapshot::of(inner(state));
+        Ok(Held {
+            state: Some(again),
+            mark: self.mark,
+            seen,
+        })
     }
 
-    /// The state.
-    pub fn value(&self) -> &S
-        ensures { result.now ≡ self.now }
+    /// The state, unless it is forgotten.
+    pub fn value(&self) -> Option<&S>
+        ensures { IfSome result (λ state. state.now ≡ self.now) }
     {
-        &self.state
+        match &self.state {
+            Some(state) => Some(inner(state)),
+            None => None,
+        }
+    }
+
+    /// Whether it is this state. Want of memory where it is forgotten, and has the same mark.
+    pub fn is(&self, state: &S) -> Result<bool, NoMemory>
+        ensures { IfOk result (λ same. IsTrue same ↔ (self.now ≡ state.now)) }
+    {
+        if self.mark != state.mark() {
+            return Ok(false);
+        }
+        match &self.state {
+            Some(own) => Ok(inner(own).is_same(state)),
+            None => Err(NoMemory),
+        }
+    }
+
+    /// Forgets the state.
+    pub fn forget(&mut self)
+        ensures { self.new ≡ self.old }
+    {
+        self.state = None;
     }
 }
 
 /// States, on shelves by their marks. No answer depends on which are there.
 #[derive(Drop)]
-pub struct Shelves<S> {
+pub struct Shelves<S: State> {
     alloc: Global,
     shelves: Vec<Vec<Held<S>>>,
+    weight: usize,
 }
 
 // Where a state stands on a shelf.
@@ -59,14 +112,14 @@ fn find<S: State>(shelf: &[Held<S>], state: &S) -> Option<usize>
     ensures { IfSome result (λ at. slice_get shelf.now at ≡ Some state.now) }
 {
     for (at, held) in shelf.iter().enumerate() {
-        if held.value().is_same(state) {
+        if let Ok(true) = held.is(state) {
             return Some(at);
         }
     }
     None
 }
 
-// The state as it stands on a shelf, on which it is put where it isn't there.
+// The state, which is put on a shelf too.
 fn shelved<S: State>(
     alloc: Global,
     shelf: &mut Vec<Held<S>>,
@@ -74,9 +127,6 @@ fn shelved<S: State>(
 ) -> Result<Held<S>, NoMemory>
     ensures { IfOk result (λ held. held ≡ state) }
 {
-    if let Some(at) = find(shelf.as_slice(), &state) {
-        return shelf[at].share();
-    }
     let Ok(held) = Held::new(alloc, state) else {
         return Err(NoMemory);
     };
@@ -100,7 +150,21 @@ impl<S: State> Shelves<S> {
                 return Err(NoMemory);
             };
         }
-        Ok(Shelves { alloc, shelves })
+        Ok(Shelves {
+            alloc,
+            shelves,
+            weight: 0,
+        })
+    }
+
+    /// The allocator.
+    pub fn alloc(&self) -> Global {
+        self.alloc
+    }
+
+    /// Whether the states that were put there since the shelves were emptied have more than so many bytes.
+    pub fn are_heavy(&self, most: usize) -> bool {
+        self.weight > most
     }
 
     /// The state, shared with those that are the same.
@@ -113,6 +177,19 @@ impl<S: State> Shelves<S> {
         }
         let at = (state.mark() % count as u64) as usize;
         let shelf = &mut self.shelves[at];
+        if let Some(number) = find(shelf.as_slice(), &state) {
+            return shelf[number].share();
+        }
+        self.weight = self.weight.saturating_add(state.weight());
+        let shelf = &mut self.shelves[at];
         shelved(self.alloc, shelf, state)
+    }
+
+    /// Nothing is on the shelves.
+    pub fn empty(&mut self) {
+        for shelf in self.shelves.iter_mut() {
+            shelf.clear();
+        }
+        self.weight = 0;
     }
 }

@@ -8,6 +8,7 @@
 mod found;
 mod held;
 mod machine;
+mod meeting;
 mod report;
 mod search;
 mod store;

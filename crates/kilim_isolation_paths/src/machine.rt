@@ -29,11 +29,18 @@ impl Exit {
 
 /// A state that can be compared.
 pub trait State: Drop {
+    /// What its mark is.
+    ghost marks: { Self → ℕ };
+
     fn is_same(&self, other: &Self) -> bool
         ensures { IsTrue result ↔ (self.now ≡ other.now) };
 
-    /// A number by which different states are mostly told apart. No answer depends on it.
-    fn mark(&self) -> u64;
+    /// A number by which different states are mostly told apart.
+    fn mark(&self) -> u64
+        ensures { result ≡ marks self.now };
+
+    /// About how many bytes it takes. No answer depends on it.
+    fn weight(&self) -> usize;
 }
 
 /// Places, the exits of each, and the steps.

@@ -22,6 +22,9 @@ pub struct Report {
     pub path: Seq<u32>,
 }
 
+// So many bytes of states are much.
+const MUCH: usize = 1 << 28;
+
 /// What the exploration answers.
 #[derive(Drop)]
 pub enum Explored {
@@ -78,13 +81,17 @@ fn reports<S: State>(
 }
 
 // The store where only the entry was reached.
-fn started<M: Moves>(alloc: Global, machine: &M) -> Result<Store<M::State>, NoMemory>
+fn started<M: Moves>(
+    alloc: Global,
+    machine: &M,
+    most: usize,
+) -> Result<Store<M::State>, NoMemory>
     ensures { IfOk result (λ store. Good (M.means machine.now) (M.fits machine.now) store []) }
 {
     let Ok(entry) = machine.entry() else {
         return Err(NoMemory);
     };
-    let Ok(mut store) = Store::new(alloc, machine.size()) else {
+    let Ok(mut store) = Store::new(alloc, machine.size(), most) else {
         return Err(NoMemory);
     };
     let Ok(()) = store.push(0, entry, 0) else {
@@ -115,11 +122,32 @@ fn answer<M: Moves>(
     }
 }
 
-/// Exactly the faults of all paths, or a place that more than 256 states reach.
+// The same, and whether states were forgotten, which is so from so many bytes of states on.
+fn explore_within<M: Moves>(
+    alloc: Global,
+    machine: &M,
+    most: usize,
+) -> (Result<Explored, NoMemory>, bool)
+    ensures { IfOk result.0 (λ answer. IsAnswer (M.means machine.now) answer) }
+{
+    let Ok(mut store) = started(alloc, machine, most) else {
+        return (Err(NoMemory), false);
+    };
+    let mut found = Vec::new(alloc);
+    let answered = answer(alloc, machine, &mut store, &mut found);
+    (answered, store.has_forgotten())
+}
+
+/// Exactly the faults of all paths, or a place that more than 256 states reach. Where the states take much memory, those of straight code
+/// are forgotten; where one of them is asked for again, the search begins once more, and forgets none.
 pub fn explore<M: Moves>(alloc: Global, machine: &M) -> Result<Explored, NoMemory>
     ensures { IfOk result (λ answer. IsAnswer (M.means machine.now) answer) }
 {
-    let mut store = started(alloc, machine)?;
-    let mut found = Vec::new(alloc);
-    answer(alloc, machine, &mut store, &mut found)
+    let (first, has_forgotten) = explore_within(alloc, machine, MUCH);
+    if first.is_ok() || !has_forgotten {
+        return first;
+    }
+    drop(first);
+    let (second, _) = explore_within(alloc, machine, usize::MAX);
+    second
 }

@@ -10,7 +10,8 @@ use crate::found::{Found, note};
 use crate::held::Held;
 use crate::machine::{Exit, Moves};
 use crate::store::{Reached, Store};
-use kilim_units::NoMemory;
+use crate::meeting::meets_of;
+use kilim_units::{NoMemory, unmet};
 
 /// At most so many different states may reach a place.
 pub const MOST_STATES: usize = 256;
@@ -26,7 +27,11 @@ fn step<M: Moves>(
     ensures step { IfOk result (λ r. r ≡ (M.means machine.now).moves entry.now.place entry.now.state exit) }
     ensures fits { IfOk result (λ r. IfOk r (λ t. IfSome (target exit) (λ q. M.fits machine.now q t))) }
 {
-    machine.step(entry.place, entry.state.value(), exit)
+    match entry.state.value() {
+        Some(state) => machine.step(entry.place, state, exit),
+        // unmet: only states of entries whose steps were taken in are forgotten
+        None => Err(unmet()),
+    }
 }
 
 /// Takes in one step of an entry.
@@ -64,7 +69,10 @@ fn take<M: Moves>(
             let Some(to) = exit.target() else {
                 return Ok(None);
             };
-            if store.has(to, &state) {
+            let Ok(is_there) = store.has(to, &state) else {
+                return Err(NoMemory);
+            };
+            if is_there {
                 return Ok(None);
             }
             let Ok(()) = store.push(to, state, at) else {
@@ -79,8 +87,8 @@ fn take<M: Moves>(
     }
 }
 
-/// Takes in all steps of an entry.
-fn visit<M: Moves>(
+// Takes in all steps of an entry.
+fn visit_all<M: Moves>(
     machine: &M,
     store: &mut Store<M::State>,
     found: &mut Vec<Found>,
@@ -103,6 +111,41 @@ fn visit<M: Moves>(
         }
     }
     Ok(None)
+}
+
+// Where the states take much memory, those of entries whose steps were taken in are forgotten, but where flows meet.
+fn sweep<M: Moves>(
+    machine: &M,
+    store: &mut Store<M::State>,
+    at: usize,
+) -> Result<(), NoMemory>
+    ensures { store.new ≡ store.old }
+{
+    if !store.is_heavy() {
+        return Ok(());
+    }
+    let Ok(meets) = meets_of(store.alloc(), machine) else {
+        return Err(NoMemory);
+    };
+    store.forget(&meets, at);
+    Ok(())
+}
+
+/// Takes in all steps of an entry.
+fn visit<M: Moves>(
+    machine: &M,
+    store: &mut Store<M::State>,
+    found: &mut Vec<Found>,
+    at: usize,
+) -> Result<Option<u32>, NoMemory>
+    requires good { Good (M.means machine.now) (M.fits machine.now) store.old found.old.items }
+    requires at { at < length store.old.entries }
+    ensures { IfOk result (Visited (M.means machine.now) (M.fits machine.now) store.old store.new found.old.items found.new.items at) }
+{
+    let Ok(()) = sweep(machine, store, at) else {
+        return Err(NoMemory);
+    };
+    visit_all(machine, store, found, at)
 }
 
 /// Takes in all steps of all entries.

@@ -22,13 +22,16 @@ pub struct Reached<S> {
 
 /// The entries, and for each place which of them stand there. Those of the same state share it.
 #[derive(Drop)]
-pub struct Store<S> {
+pub struct Store<S: State> {
     entries: Vec<Reached<Held<S>>>,
     rows: Vec<Vec<usize>>,
     shelves: Shelves<S>,
+    // from so many bytes of states on some are forgotten
+    most: usize,
+    has_forgotten: bool,
 }
 
-impl<S> Model for Store<S> {
+impl<S: State> Model for Store<S> {
     ghost use Rattle.std.specs.Prelude.{length};
     ghost use Rattle.kilim_isolation_paths.specs.Stored.{Stored, AreRows};
 
@@ -40,7 +43,8 @@ impl<S> Model for Store<S> {
 }
 
 impl<S: State> Store<S> {
-    pub fn new(alloc: Global, size: usize) -> Result<Store<S>, NoMemory>
+    /// A store for so many places, and from how many bytes of states on some are forgotten.
+    pub fn new(alloc: Global, size: usize, most: usize) -> Result<Store<S>, NoMemory>
         ensures { IfOk result (λ s. s ≡ record { entries = []; size = size }) }
     {
         let mut rows = Vec::new(alloc);
@@ -56,6 +60,8 @@ impl<S: State> Store<S> {
             entries: Vec::new(alloc),
             rows,
             shelves,
+            most,
+            has_forgotten: false,
         })
     }
 
@@ -80,17 +86,20 @@ impl<S: State> Store<S> {
         &self.rows[place as usize]
     }
 
-    /// Whether the state was found at the place.
-    pub fn has(&self, place: u32, state: &S) -> bool
+    /// Whether the state was found at the place. Want of memory where one was forgotten that may be it.
+    pub fn has(&self, place: u32, state: &S) -> Result<bool, NoMemory>
         requires { place < self.now.size }
-        ensures { IsTrue result ↔ Has (states_at place self.now.entries) state.now }
+        ensures { IfOk result (λ there. IsTrue there ↔ Has (states_at place self.now.entries) state.now) }
     {
         for k in self.row(place) {
-            if self.get(*k).state.value().is_same(state) {
-                return true;
+            let Ok(same) = self.get(*k).state.is(state) else {
+                return Err(NoMemory);
+            };
+            if same {
+                return Ok(true);
             }
         }
-        false
+        Ok(false)
     }
 
     /// How many states were found at the place.
@@ -120,5 +129,47 @@ impl<S: State> Store<S> {
                 Err(NoMemory)
             }
         }
+    }
+
+    /// The allocator.
+    pub fn alloc(&self) -> Global {
+        self.shelves.alloc()
+    }
+
+    /// Whether the states take much memory.
+    pub fn is_heavy(&self) -> bool {
+        self.shelves.are_heavy(self.most)
+    }
+
+    /// Whether states were forgotten.
+    pub fn has_forgotten(&self) -> bool {
+        self.has_forgotten
+    }
+
+    /// Forgets the states of the first so many entries, but those at places where flows meet.
+    pub fn forget(&mut self, meets: &[bool], count: usize)
+        ensures { self.new ≡ self.old }
+    {
+        self.has_forgotten = true;
+        self.shelves.empty();
+        forget_all(&mut self.entries, meets, count);
+    }
+}
+
+// Forgets the state of an entry, unless flows meet at its place.
+fn forget<S: State>(entry: &mut Reached<Held<S>>, meets: &[bool])
+    ensures { entry.new ≡ entry.old }
+{
+    if let Some(true) = meets.get(entry.place as usize) {
+        return;
+    }
+    entry.state.forget();
+}
+
+fn forget_all<S: State>(entries: &mut Vec<Reached<Held<S>>>, meets: &[bool], count: usize)
+    ensures { entries.new.items ≡ entries.old.items }
+{
+    for at in 0..count.min(entries.len()) {
+        forget(&mut entries[at], meets);
     }
 }

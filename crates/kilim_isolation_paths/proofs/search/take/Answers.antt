@@ -27,10 +27,10 @@ pub returns-then-count-gt-MOST_STATES : goal.returns-then-count-gt-MOST_STATES
 returns-then-count-gt-MOST_STATES g c =
     took_crowded (g.M.Moves.means c.args.machine.now) (g.M.Moves.fits c.args.machine.now) c.args.store.now c.push.new.self c.args.found.now.items c.args.at c.get-entry.result.now c.args.exit c.in-Ok.stepped c.in-Some.to c.in-Ok-stepped.state
     c.requires.good c.get-entry.ensures (c.requires.exit c.get-entry.result.now c.get-entry.ensures) c.in-Ok.ensures.step c.in-Ok-stepped.is (sym c.target.ensures ∙ c.in-Some.is) c.in-Ok.ensures.fits c.requires.inside
-    (λ h. both_ways c.has.result c.if-has.false (c.has.ensures.1 h)) c.in-Ok-push.ensures.ok (omega arith)
+    (λ h. both_ways c.in-Ok-has.is_there c.if-is_there.false (c.in-Ok-has.ensures.1 h)) c.in-Ok-push.ensures.ok (omega arith)
 
 pub returns-else-count-gt-MOST_STATES : goal.returns-else-count-gt-MOST_STATES
 returns-else-count-gt-MOST_STATES g c =
     took_pushed (g.M.Moves.means c.args.machine.now) (g.M.Moves.fits c.args.machine.now) c.args.store.now c.push.new.self c.args.found.now.items c.args.at c.get-entry.result.now c.args.exit c.in-Ok.stepped c.in-Some.to c.in-Ok-stepped.state
     c.requires.good c.get-entry.ensures (c.requires.exit c.get-entry.result.now c.get-entry.ensures) c.in-Ok.ensures.step c.in-Ok-stepped.is (sym c.target.ensures ∙ c.in-Some.is) c.in-Ok.ensures.fits c.requires.inside
-    (λ h. both_ways c.has.result c.if-has.false (c.has.ensures.1 h)) c.in-Ok-push.ensures.ok (omega arith)
+    (λ h. both_ways c.in-Ok-has.is_there c.if-is_there.false (c.in-Ok-has.ensures.1 h)) c.in-Ok-push.ensures.ok (omega arith)

@@ -1,6 +1,6 @@
 use Rattle.kilim_isolation_paths.specs.Search.{Good, Later}
 use Rattle.kilim_isolation_paths.proofs.Loops.{DoneBelow}
-use Rattle.kilim_isolation_paths.proofs.search.visit.Given as goal
+use Rattle.kilim_isolation_paths.proofs.search.visit_all.Given as goal
 
 abbrev pub invariant-loop-exit : goal.invariant-loop-exit
 invariant-loop-exit g l =
