@@ -120,11 +120,7 @@ fn find<S: State>(shelf: &[Held<S>], state: &S) -> Option<usize>
 }
 
 // The state, which is put on a shelf too.
-fn shelved<S: State>(
-    alloc: Global,
-    shelf: &mut Vec<Held<S>>,
-    state: S,
-) -> Result<Held<S>, NoMemory>
+fn shelved<S: State>(alloc: Global, shelf: &mut Vec<Held<S>>, state: S) -> Result<Held<S>, NoMemory>
     ensures { IfOk result (λ held. held ≡ state) }
 {
     let Ok(held) = Held::new(alloc, state) else {

@@ -81,11 +81,7 @@ fn reports<S: State>(
 }
 
 // The store where only the entry was reached.
-fn started<M: Moves>(
-    alloc: Global,
-    machine: &M,
-    most: usize,
-) -> Result<Store<M::State>, NoMemory>
+fn started<M: Moves>(alloc: Global, machine: &M, most: usize) -> Result<Store<M::State>, NoMemory>
     ensures { IfOk result (λ store. Good (M.means machine.now) (M.fits machine.now) store []) }
 {
     let Ok(entry) = machine.entry() else {

@@ -9,8 +9,8 @@ ghost use Rattle.kilim_isolation_paths.specs.declared.store.Reached.{Reached};
 use crate::found::{Found, note};
 use crate::held::Held;
 use crate::machine::{Exit, Moves};
-use crate::store::{Reached, Store};
 use crate::meeting::meets_of;
+use crate::store::{Reached, Store};
 use kilim_units::{NoMemory, unmet};
 
 /// At most so many different states may reach a place.
@@ -114,11 +114,7 @@ fn visit_all<M: Moves>(
 }
 
 // Where the states take much memory, those of entries whose steps were taken in are forgotten, but where flows meet.
-fn sweep<M: Moves>(
-    machine: &M,
-    store: &mut Store<M::State>,
-    at: usize,
-) -> Result<(), NoMemory>
+fn sweep<M: Moves>(machine: &M, store: &mut Store<M::State>, at: usize) -> Result<(), NoMemory>
     ensures { store.new ≡ store.old }
 {
     if !store.is_heavy() {
