@@ -81,7 +81,10 @@ fn same_graphs(a: &Graph, b: &Graph) -> bool
 fn weight_of(graph: &Graph) -> usize {
     let slots = graph.locals.len().saturating_add(graph.stack.len());
     let nodes = graph.nodes.len().saturating_mul(96);
-    slots.saturating_mul(32).saturating_add(nodes).saturating_add(256)
+    slots
+        .saturating_mul(32)
+        .saturating_add(nodes)
+        .saturating_add(256)
 }
 
 impl State for Shape {

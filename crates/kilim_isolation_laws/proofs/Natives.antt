@@ -159,7 +159,7 @@ module _ (p : Program) (keeps : Keeps p) (form : p.form ≡ Plain) where
   no_bound id m there known =
       let w = name_of is_bound (codes "<init>") all_bound id m native.Bound there known refl in
       not_handed_out (class_name p m.owner) m native.Bound w.0 w.1 (built_in_one p keeps form (NamedSo (codes "<init>") (λ m. is_empty m.params ≡ true)) (no_arguments n) id m there w.0 w.1)
-          (sym (ap (λ (o : Option Method). o >>= native_method p) there) ∙ known)
+      (sym (ap (λ (o : Option Method). o >>= native_method p) there) ∙ known)
 
   pub start_is : (id : MethodId) (m : Method) → method_at p id ≡ Some m → native_of p id ≡ Some native.Start → Begins n Free m
   start_is id m there known = let w = name_of is_start (codes "start") all_start id m native.Start there known refl in built_in_one p keeps form (NamedSo (codes "start") (Begins n Free)) (starts_so n) id m there w.0 w.1
