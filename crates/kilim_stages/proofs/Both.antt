@@ -16,8 +16,8 @@ use Rattle.kilim_link_spec.specs.Linked.{Linked, OneProgram, first_of}
 use Rattle.kilim_type_spec.specs.Faults.{first_type_fault}
 use Rattle.kilim_isolation.specs.Faults.{AreReports}
 use Rattle.kilim_stages.specs.ProgramOf.{IsFile, AreFiles, IsProgramOf}
-use Rattle.kilim_stages.specs.Accepted.{IsAcceptedOf, typed_of}
-use Rattle.kilim_stages.specs.Reports.{or_fault, first_fault, IsStageReport}
+use Rattle.kilim_stages.specs.Accepted.{IsAcceptedOf, IsTypedOf, typed_of}
+use Rattle.kilim_stages.specs.Reports.{or_fault, first_fault, IsStageReport, IsTypingReport}
 use Rattle.kilim_stages.proofs.None.{no_reports}
 
 -- ---- class files
@@ -69,16 +69,24 @@ module _ (law : ClassFilesAreSpelled) where
         let same = same_classes files b.classes a.classes b.are_files a.are_files in
         one a.classes Plain p q a.linked (subst (λ (cs : List ClassFile). Linked cs Plain q) same b.linked)
 
-    pub never_both : (names files : List (List ℕ)) (text : List ℕ) (p : Program) → IsAcceptedOf files p → IsStageReport names files text → ⊥
+    pub never_typed : (names files : List (List ℕ)) (text : List ℕ) (p : Program) → IsTypedOf files p → IsTypingReport names files text → ⊥
     unfolding link.first_fault
-    never_both names files text p is (inl class) = none_no_some (class.name, class.fault) (first_fault names files) (none_refused names files is.of_files.classes is.of_files.are_files) class.first
-    never_both names files text p is (inr (inl report)) =
+    never_typed names files text p is (inl class) = none_no_some (class.name, class.fault) (first_fault names files) (none_refused names files is.of_files.classes is.of_files.are_files) class.first
+    never_typed names files text p is (inr (inl report)) =
         let same = same_classes files is.of_files.classes report.classes is.of_files.are_files report.are_files in
         let none = subst (λ (cs : List ClassFile). link.link_faults cs Plain ≡ []) same is.of_files.none in
         none_no_some _ (link.first_fault report.classes Plain) (ap (λ (faults : List LinkFault). first_of faults) none) report.first
-    never_both names files text p is (inr (inr (inl typing))) =
+    never_typed names files text p is (inr (inr typing)) =
         let same = same_program files p typing.program is.of_files typing.of_files in
-        none_no_some (typing.method, typing.place, typing.rule) (first_type_fault typing.program) (subst (λ (q : Program). first_type_fault q ≡ None) same is.accepts.typed) typing.first
+        none_no_some (typing.method, typing.place, typing.rule) (first_type_fault typing.program) (subst (λ (q : Program). first_type_fault q ≡ None) same is.typed) typing.first
+
+    typed_too : (files : List (List ℕ)) (p : Program) → IsAcceptedOf files p → IsTypedOf files p
+    typed_too files p is = record { of_files = is.of_files; typed = is.accepts.typed }
+
+    pub never_both : (names files : List (List ℕ)) (text : List ℕ) (p : Program) → IsAcceptedOf files p → IsStageReport names files text → ⊥
+    never_both names files text p is (inl class) = never_typed names files text p (typed_too files p is) (inl class)
+    never_both names files text p is (inr (inl report)) = never_typed names files text p (typed_too files p is) (inr (inl report))
+    never_both names files text p is (inr (inr (inl typing))) = never_typed names files text p (typed_too files p is) (inr (inr typing))
     never_both names files text p is (inr (inr (inr rules))) =
         let same = same_program files rules.program p rules.of_files is.of_files in
         rules.some (no_reports (typed_of p) rules.reports is.accepts.isolated (subst (λ (q : Program). AreReports (typed_of q) rules.reports) same rules.are_reports))

@@ -1,4 +1,5 @@
 pub mod Named
 pub mod None
 pub mod Both
+pub mod Plain
 pub mod Parts

@@ -4,14 +4,15 @@ use Rattle.std.specs.Prelude.{IfOk}
 use Rattle.kilim_program.specs.Program.{Program}
 use Rattle.kilim_class_file.specs.declared.class_file.ClassFile.{ClassFile}
 use Rattle.kilim_isolation.specs.IsolatedProgram.{IsolatedProgram}
-use Rattle.kilim_isolation.specs.Faults.{IsAccepted}
+use Rattle.kilim_isolation.specs.Faults.{AreReports, IsAccepted}
+use Rattle.kilim_type_spec.specs.Faults.{first_type_fault}
 use Rattle.kilim_type_spec.specs.TypedProgram.{TypedProgram}
 use Rattle.kilim_stages.specs.declared.refusal.Refusal.{Refusal}
 use Rattle.kilim_stages.specs.declared.refusal.Refusal.TheVariants as refusal
 use Rattle.kilim_stages.specs.ProgramOf.{AreFiles, IsProgramOf}
-use Rattle.kilim_stages.specs.Accepted.{Accepts, IsAcceptedOf, typed_of}
-use Rattle.kilim_stages.specs.Parts.{Refused, IfReport, IsTypeLine, IsTyped, IsIsolated, IsAcceptedBy, IsAcceptedFrom, AreRuleLines, AreRuleLinesOf, IsReportOf, IsProgramReport, IsReportOfClasses, IsLinkLine, LinksTo}
-use Rattle.kilim_stages.specs.Reports.{IsClassReport, IsLinkReport, IsTypeReport, IsRulesReport, IsStageReport}
+use Rattle.kilim_stages.specs.Accepted.{IsAcceptedOf, IsTypedOf, typed_of}
+use Rattle.kilim_stages.specs.Parts.{Refused, IfReport, IsTypeLine, IsTyped, IsTypedFrom, IsTypingLine, IsIsolated, AreRuleLinesOf, LinksTo}
+use Rattle.kilim_stages.specs.Reports.{IsStageReport, IsTypingReport}
 
 -- another word for the same report
 pub refused : {P Q : List ℕ → Type 0} (r : Refusal) → ((text : List ℕ) → P text → Q text) → Refused r P → Refused r Q
@@ -22,47 +23,69 @@ pub reported : {A : Type 0} {P Q : List ℕ → Type 0} (r : Result A Refusal) �
 reported (Ok x) f said = tt
 reported (Err e) f said = refused e f said
 
--- ---- a program
-
-accepted_one : (p : Program) (t : TypedProgram) (i : IsolatedProgram) → IsTyped p t → IsIsolated t i → IsAcceptedBy p i
-accepted_one p t i typed isolated = record {
-  is = isolated.is ∙ typed.is;
-  accepts = record { typed = typed.none; isolated = subst (λ (u : TypedProgram). IsAccepted u) typed.is isolated.accepted };
-}
-
-pub accepted_by : (p : Program) (t : TypedProgram) (r : Result IsolatedProgram Refusal) → IsTyped p t → IfOk r (IsIsolated t) → IfOk r (IsAcceptedBy p)
-accepted_by p t (Ok i) typed isolated = accepted_one p t i typed isolated
-accepted_by p t (Err e) typed isolated = tt
-
 -- ---- class files
 
-accepted_link : (cs : List ClassFile) (p : Program) (i : IsolatedProgram) → LinksTo cs p → IsAcceptedBy p i → IsAcceptedFrom cs i
-accepted_link cs p i links is =
-    let same : p ≡ i.typed.program = ap (λ (u : TypedProgram). u.program) (sym is.is) in
-    record { links = subst (λ (q : Program). LinksTo cs q) same links; accepts = subst (λ (q : Program). Accepts q) same is.accepts }
+typed_one : (cs : List ClassFile) (p : Program) (t : TypedProgram) → LinksTo cs p → IsTyped p t → IsTypedFrom cs t
+typed_one cs p t links typed =
+    let same : p ≡ t.program = ap (λ (u : TypedProgram). u.program) (sym typed.is) in
+    record { links = subst (λ (q : Program). LinksTo cs q) same links; none = subst (λ (q : Program). first_type_fault q ≡ None) same typed.none; is = typed.is ∙ ap typed_of same }
 
-pub accepted_from : (cs : List ClassFile) (p : Program) (r : Result IsolatedProgram Refusal) → LinksTo cs p → IfOk r (IsAcceptedBy p) → IfOk r (IsAcceptedFrom cs)
-accepted_from cs p (Ok i) links is = accepted_link cs p i links is
-accepted_from cs p (Err e) links is = tt
+pub typed_from : (cs : List ClassFile) (p : Program) (r : Result TypedProgram Refusal) → LinksTo cs p → IfOk r (IsTyped p) → IfOk r (IsTypedFrom cs)
+typed_from cs p (Ok t) links typed = typed_one cs p t links typed
+typed_from cs p (Err e) links typed = tt
+
+pub type_line : (cs : List ClassFile) (p : Program) (r : Result TypedProgram Refusal) → LinksTo cs p → IfReport r (IsTypeLine p) → IfReport r (IsTypingLine cs)
+type_line cs p r links said = reported r (λ text line. inr (record { program = p; links = links; line = line })) said
 
 -- ---- bytes
 
 program_of : (files : List (List ℕ)) (cs : List ClassFile) (p : Program) → AreFiles files cs → LinksTo cs p → IsProgramOf files p
 program_of files cs p are links = record { classes = cs; are_files = are; none = links.none; linked = links.linked }
 
-pub accepted_files : (files : List (List ℕ)) (cs : List ClassFile) (r : Result IsolatedProgram Refusal) → AreFiles files cs → IfOk r (IsAcceptedFrom cs) → IfOk r (λ i. IsAcceptedOf files i.typed.program)
-accepted_files files cs (Ok i) are is = record { of_files = program_of files cs i.typed.program are is.links; accepts = is.accepts }
-accepted_files files cs (Err e) are is = tt
+pub typed_files : (files : List (List ℕ)) (cs : List ClassFile) (r : Result TypedProgram Refusal) → AreFiles files cs → IfOk r (IsTypedFrom cs) → IfOk r (λ t. IsTypedOf files t.program)
+typed_files files cs (Ok t) are is = record { of_files = program_of files cs t.program are is.links; typed = is.none }
+typed_files files cs (Err e) are is = tt
 
-program_report : (names files : List (List ℕ)) (cs : List ClassFile) (p : Program) (text : List ℕ) → AreFiles files cs → LinksTo cs p → IsReportOf p text → IsStageReport names files text
-program_report names files cs p text are links (inl typing) =
-    inr (inr (inl (record { program = p; of_files = program_of files cs p are links; method = typing.method; place = typing.place; rule = typing.rule; first = typing.first; is_text = typing.is_text })))
-program_report names files cs p text are links (inr rules) =
-    inr (inr (inr (record { program = p; of_files = program_of files cs p are links; typed = rules.typed; reports = rules.lines.reports; are_reports = rules.lines.are_reports; some = rules.lines.some; is_text = rules.lines.is_text })))
+pub frames_are : (cs : List ClassFile) (r : Result TypedProgram Refusal) → IfOk r (IsTypedFrom cs) → IfOk r (λ t. t ≡ typed_of t.program)
+frames_are cs (Ok t) is = is.is
+frames_are cs (Err e) is = tt
 
-stage_report : (names files : List (List ℕ)) (cs : List ClassFile) (text : List ℕ) → AreFiles files cs → IsReportOfClasses cs text → IsStageReport names files text
-stage_report names files cs text are (inl link) = inr (inl (record { classes = cs; are_files = are; class = link.class; problem = link.problem; first = link.first; is_text = link.is_text }))
-stage_report names files cs text are (inr r) = program_report names files cs r.program text are r.links r.report
+typing_report : (names files : List (List ℕ)) (cs : List ClassFile) (text : List ℕ) → AreFiles files cs → IsTypingLine cs text → IsTypingReport names files text
+typing_report names files cs text are (inl link) = inr (inl (record { classes = cs; are_files = are; class = link.class; problem = link.problem; first = link.first; is_text = link.is_text }))
+typing_report names files cs text are (inr typing) =
+    let line = typing.line in
+    inr (inr (record { program = typing.program; of_files = program_of files cs typing.program are typing.links; method = line.method; place = line.place; rule = line.rule; first = line.first; is_text = line.is_text }))
 
-pub reported_files : (names files : List (List ℕ)) (cs : List ClassFile) (r : Result IsolatedProgram Refusal) → AreFiles files cs → IfReport r (IsReportOfClasses cs) → IfReport r (IsStageReport names files)
-reported_files names files cs r are said = reported r (λ text is. stage_report names files cs text are is) said
+pub typing_reported : (names files : List (List ℕ)) (cs : List ClassFile) (r : Result TypedProgram Refusal) → AreFiles files cs → IfReport r (IsTypingLine cs) → IfReport r (IsTypingReport names files)
+typing_reported names files cs r are said = reported r (λ text line. typing_report names files cs text are line) said
+
+-- ---- a typed program
+
+accepted_one : (files : List (List ℕ)) (t : TypedProgram) (i : IsolatedProgram) → IsTypedOf files t.program → t ≡ typed_of t.program → IsIsolated t i → IsAcceptedOf files i.typed.program
+accepted_one files t i of is isolated =
+    subst (λ (u : TypedProgram). IsAcceptedOf files u.program) (sym isolated.is)
+    (record { of_files = of.of_files; accepts = record { typed = of.typed; isolated = subst (λ (u : TypedProgram). IsAccepted u) is isolated.accepted } })
+
+pub accepted_files : (files : List (List ℕ)) (t : TypedProgram) (r : Result IsolatedProgram Refusal) → IsTypedOf files t.program → t ≡ typed_of t.program → IfOk r (IsIsolated t) → IfOk r (λ i. IsAcceptedOf files i.typed.program)
+accepted_files files t (Ok i) of is isolated = accepted_one files t i of is isolated
+accepted_files files t (Err e) of is isolated = tt
+
+rules_report : (names files : List (List ℕ)) (t : TypedProgram) (text : List ℕ) → IsTypedOf files t.program → t ≡ typed_of t.program → AreRuleLinesOf t text → IsStageReport names files text
+rules_report names files t text of is lines =
+    inr (inr (inr (record {
+      program = t.program;
+      of_files = of.of_files;
+      typed = of.typed;
+      reports = lines.reports;
+      are_reports = subst (λ (u : TypedProgram). AreReports u lines.reports) is lines.are_reports;
+      some = lines.some;
+      is_text = lines.is_text;
+    })))
+
+pub rules_reported : (names files : List (List ℕ)) (t : TypedProgram) (r : Result IsolatedProgram Refusal) → IsTypedOf files t.program → t ≡ typed_of t.program → IfReport r (AreRuleLinesOf t) → IfReport r (IsStageReport names files)
+rules_reported names files t r of is said = reported r (λ text lines. rules_report names files t text of is lines) said
+
+pub stage_report : (names files : List (List ℕ)) (text : List ℕ) → IsTypingReport names files text → IsStageReport names files text
+stage_report names files text (inl class) = inl class
+stage_report names files text (inr (inl link)) = inr (inl link)
+stage_report names files text (inr (inr typing)) = inr (inr (inl typing))

@@ -1,4 +1,4 @@
--- How the stages hand on what they answer. No clause of `accepted` cites what stands here but `IfReport`.
+-- How the stages hand on what they answer. No clause of `typed_program` and of `accepted` cites what stands here but `IfReport`.
 use Rattle.std.specs.Prelude.{◌≡◌, ◌≢◌, ℕ, List, [], Option, Some, None, Result, Ok, Err, ◌⊎◌}
 use Rattle.kilim_program.specs.declared.class.Form.TheVariants.{Plain}
 use Rattle.kilim_program.specs.declared.names.MethodId.{MethodId}
@@ -20,7 +20,7 @@ use Rattle.kilim_reports.specs.RuleLines.{fault_lines, type_line}
 use Rattle.kilim_stages.specs.declared.refusal.Refusal.{Refusal}
 use Rattle.kilim_stages.specs.declared.refusal.Refusal.TheVariants as refusal
 use Rattle.kilim_type_spec.specs.TypedProgram.{TypedProgram}
-use Rattle.kilim_stages.specs.Accepted.{typed_of, Accepts}
+use Rattle.kilim_stages.specs.Accepted.{typed_of}
 
 -- where a report was made in place of a value, this is said of its text
 abbrev pub Refused : Refusal → (List ℕ → Type 0) → Type 0
@@ -75,30 +75,18 @@ pub record IsIsolated (t : TypedProgram) (i : IsolatedProgram) : Type 0 where
   pub is : i.typed ≡ t
   pub accepted : IsAccepted t
 
-pub record IsAcceptedBy (program : Program) (i : IsolatedProgram) : Type 0 where
-  pub is : i.typed ≡ typed_of program
-  pub accepts : Accepts program
+-- class files link to the program, which is well typed, with its frames
+pub record IsTypedFrom (classes : List ClassFile) (t : TypedProgram) : Type 0 where
+  pub links : LinksTo classes t.program
+  pub none : first_type_fault t.program ≡ None
+  pub is : t ≡ typed_of t.program
 
--- class files link to the accepted program
-pub record IsAcceptedFrom (classes : List ClassFile) (i : IsolatedProgram) : Type 0 where
-  pub links : LinksTo classes i.typed.program
-  pub accepts : Accepts i.typed.program
+-- ---- what the stages up to typing report of class files
 
--- ---- what each stage reports
-
--- of a program
-pub record AreRuleLines (program : Program) (text : List ℕ) : Type 0 where
-  pub typed : first_type_fault program ≡ None
-  pub lines : AreRuleLinesOf (typed_of program) text
-
-abbrev pub IsReportOf : Program → List ℕ → Type 0
-IsReportOf program text = IsTypeLine program text ⊎ AreRuleLines program text
-
--- of class files
-pub record IsProgramReport (classes : List ClassFile) (text : List ℕ) : Type 0 where
+pub record IsTypeLineOf (classes : List ClassFile) (text : List ℕ) : Type 0 where
   pub program : Program
   pub links : LinksTo classes program
-  pub report : IsReportOf program text
+  pub line : IsTypeLine program text
 
-abbrev pub IsReportOfClasses : List ClassFile → List ℕ → Type 0
-IsReportOfClasses classes text = IsLinkLine classes text ⊎ IsProgramReport classes text
+abbrev pub IsTypingLine : List ClassFile → List ℕ → Type 0
+IsTypingLine classes text = IsLinkLine classes text ⊎ IsTypeLineOf classes text

@@ -67,3 +67,7 @@ pub record IsRulesReport (files : List (List ℕ)) (text : List ℕ) : Type 0 wh
 -- the report of the first of these stages that has a fault
 abbrev pub IsStageReport : List (List ℕ) → List (List ℕ) → List ℕ → Type 0
 IsStageReport names files text = IsClassReport names files text ⊎ (IsLinkReport files text ⊎ (IsTypeReport files text ⊎ IsRulesReport files text))
+
+-- the report of the first of them up to typing that has a fault
+abbrev pub IsTypingReport : List (List ℕ) → List (List ℕ) → List ℕ → Type 0
+IsTypingReport names files text = IsClassReport names files text ⊎ (IsLinkReport files text ⊎ IsTypeReport files text)

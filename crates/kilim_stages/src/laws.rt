@@ -1,6 +1,6 @@
 //! Laws, and no work.
 
-ghost use Rattle.kilim_stages.specs.Laws.{NeverBoth, OneProgramOf};
+ghost use Rattle.kilim_stages.specs.Laws.{NeverBoth, NeverTypedAndReported, OneProgramOf};
 
 use kilim_class_file::class_file_is_spelled;
 use kilim_link_spec::one_program;
@@ -18,6 +18,15 @@ pub fn one_program_of()
 #[tactic(auto, using(crate::proofs::Both::never_both))]
 pub fn never_both()
     ensures { NeverBoth }
+{
+    class_file_is_spelled();
+    one_program();
+}
+
+/// A law, and no work: no files are both those of a typed program and reported by a stage up to typing.
+#[tactic(auto, using(crate::proofs::Both::never_typed))]
+pub fn never_typed_and_reported()
+    ensures { NeverTypedAndReported }
 {
     class_file_is_spelled();
     one_program();

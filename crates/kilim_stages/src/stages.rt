@@ -6,16 +6,16 @@ ghost use Rattle.std.specs.String.{string_bytes};
 ghost use Rattle.kilim_class_file.specs.Text.{ClassFits};
 ghost use Rattle.kilim_reports.specs.LinkLines.{link_line};
 ghost use Rattle.kilim_reports.specs.RuleLines.{fault_lines, type_line};
-ghost use Rattle.kilim_stages.specs.Accepted.{IsAcceptedOf};
-ghost use Rattle.kilim_stages.specs.Parts.{Refused, IfReport, IsAcceptedBy, IsAcceptedFrom, IsIsolated, IsLinkLine, IsReportOf, IsReportOfClasses, IsTypeLine, IsTyped, LinksTo, AreRuleLinesOf};
-ghost use Rattle.kilim_stages.specs.Reports.{IsStageReport};
+ghost use Rattle.kilim_stages.specs.Accepted.{IsAcceptedOf, IsTypedOf, typed_of};
+ghost use Rattle.kilim_stages.specs.Parts.{Refused, IfReport, IsIsolated, IsLinkLine, IsTypeLine, IsTyped, IsTypedFrom, IsTypingLine, LinksTo, AreRuleLinesOf};
+ghost use Rattle.kilim_stages.specs.Reports.{IsStageReport, IsTypingReport};
 
 use crate::classes::classes_of;
 use crate::refusal::Refusal;
 use kilim_class_file::ClassFile;
 use kilim_isolation::{CheckFault, Isolated, Report, check_program};
 use kilim_link::link;
-use kilim_link_spec::{LinkFault, Problem};
+use kilim_link_spec::{LinkFault, Problem, linked_in_parts};
 use kilim_program::{Form, MethodId, Program};
 use kilim_reports::{fault_lines, link_line, type_line};
 use kilim_type_spec::Typed;
@@ -104,26 +104,33 @@ fn isolated(alloc: Global, typed: Typed) -> Result<Isolated, Refusal>
     }
 }
 
-// The program where it is accepted, or the report of the first rules that it breaks.
-fn accepted_by(alloc: Global, program: Program) -> Result<Isolated, Refusal>
-    ensures accepted { IfOk result (IsAcceptedBy program) }
-    ensures report { IfReport result (IsReportOf program) }
+// The typed program to which class files link, or the line of their first problem, or of the first broken rule of typing.
+fn typed_from(alloc: Global, classes: &[ClassFile]) -> Result<Typed, Refusal>
+    requires few { length classes.now ≤ 1000 }
+    requires fit { AllByRecursion ClassFits classes.now }
+    ensures typed { IfOk result (IsTypedFrom classes.now) }
+    ensures report { IfReport result (IsTypingLine classes.now) }
 {
-    match typed(alloc, program) {
-        Ok(typed) => isolated(alloc, typed),
+    match linked(alloc, classes) {
+        Ok(program) => typed(alloc, program),
         Err(refusal) => Err(refusal),
     }
 }
 
-// The same of the program to which class files link.
-fn accepted_from(alloc: Global, classes: &[ClassFile]) -> Result<Isolated, Refusal>
-    requires few { length classes.now ≤ 1000 }
-    requires fit { AllByRecursion ClassFits classes.now }
-    ensures accepted { IfOk result (IsAcceptedFrom classes.now) }
-    ensures report { IfReport result (IsReportOfClasses classes.now) }
+/// The typed program of the class files with these bytes, linked in their order, with the frames at its places; or the report of the first
+/// stage that has a fault: a file that is no class file, by its name, a class that doesn't link, or a broken rule of typing. There are at
+/// most 1,000 files, and a name for each.
+pub fn typed_program(alloc: Global, names: &[String], files: &[Seq<u8>]) -> Result<Typed, Refusal>
+    requires few { length files.now ≤ 1000 }
+    requires same { length names.now ≡ length files.now }
+    ensures typed { IfOk result (λ typed. IsTypedOf files.now typed.program) }
+    ensures frames { IfOk result (λ typed. typed ≡ typed_of typed.program) }
+    ensures plain { IfOk result (λ typed. typed.program.form ≡ Form.Plain) }
+    ensures report { IfReport result (IsTypingReport (map string_bytes names.now) files.now) }
 {
-    match linked(alloc, classes) {
-        Ok(program) => accepted_by(alloc, program),
+    linked_in_parts();
+    match classes_of(alloc, names, files) {
+        Ok(classes) => typed_from(alloc, classes.as_slice()),
         Err(refusal) => Err(refusal),
     }
 }
@@ -137,8 +144,8 @@ pub fn accepted(alloc: Global, names: &[String], files: &[Seq<u8>]) -> Result<Is
     ensures accepted { IfOk result (λ isolated. IsAcceptedOf files.now isolated.typed.program) }
     ensures report { IfReport result (IsStageReport (map string_bytes names.now) files.now) }
 {
-    match classes_of(alloc, names, files) {
-        Ok(classes) => accepted_from(alloc, classes.as_slice()),
+    match typed_program(alloc, names, files) {
+        Ok(typed) => isolated(alloc, typed),
         Err(refusal) => Err(refusal),
     }
 }

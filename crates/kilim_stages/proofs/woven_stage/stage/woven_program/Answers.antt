@@ -2,7 +2,7 @@ use Rattle.std.proofs.Common.{inl, map}
 use Rattle.std.specs.String.{string_bytes}
 use Rattle.kilim_stages.proofs.Parts.{refused}
 use Rattle.kilim_stages.proofs.woven_stage.Handed.{method_reported, woven_files}
-use Rattle.kilim_stages.proofs.woven_stage.Plain.{plain_form}
+use Rattle.kilim_stages.proofs.Plain.{plain_form}
 use Rattle.kilim_stages.proofs.woven_stage.stage.woven_program.Goals as goal
 
 pub woven_by-requires : goal.woven_by-requires
