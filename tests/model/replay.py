@@ -1,18 +1,16 @@
 #!/usr/bin/env python3
-"""Whether a journal is that of a whole run: replayed in its order, the threads of the class files, over one shared heap, do exactly
-these puts, takes, starts, prints and ends, and none has anything left to do at the end. Written apart from the program.
+"""What is so of a journal: that it is that of a whole run, or what is wrong with it first. Replayed in its order, the threads of the class
+files, over one shared heap, do exactly these puts, takes, starts, prints and ends, and at the end those that are left wait as it says.
+Written apart from the program.
 
     tests/model/replay.py JOURNAL --main=NAME [--workers=W] [--steps=N] FILE.. [-- INT..]
 """
 import collections
 import sys
 
+from lines import bad_line
 from machine import MOST_TASKS, Program, Thread, plain, shape
 from run import words_read
-
-
-class Wrong(Exception):
-    """What is wrong with a journal."""
 
 
 class Replay:
@@ -34,27 +32,37 @@ class Replay:
             self.pending[task] = action
         return self.pending[task]
 
-    def whole(self, lines):
+    def waits(self, action):
+        return action[0] == "take" and not self.queues[action[1]]
+
+    def verdict(self, lines):
+        """What is so of a journal, as `kilim replay` writes it, without the line feed."""
         closing = next((k for k, line in enumerate(lines) if line.split(" ")[1] == "waits"), len(lines))
         for number, line in enumerate(lines[:closing], 1):
             task = int(line.split(" ", 1)[0])
-            if task >= len(self.threads) or task in self.ended:
-                raise Wrong("line %d: task %d isn't there" % (number, task))
-            wanted = "%d %s" % (task, self.done(task, self.next(task)))
-            if wanted != line:
-                raise Wrong("line %d is `%s` in place of `%s`" % (number, line, wanted))
-        self.at_rest(lines[closing:])
+            if task >= len(self.threads):
+                return "replay %d absent" % number
+            if task in self.ended:
+                return "replay %d ended" % number
+            action = self.next(task)
+            if self.waits(action):
+                return "replay %d waits" % number
+            own = "%d %s" % (task, self.done(task, action))
+            if own != line:
+                return "replay %d made %s" % (number, own)
+        return self.closed(lines[closing:], closing + 1)
 
-    def at_rest(self, closing):
-        wanted = []
-        for task in range(len(self.threads)):
-            if task not in self.ended:
-                action = self.next(task)
-                if action[0] != "take" or self.queues[action[1]]:
-                    raise Wrong("task %d has something left to do" % task)
-                wanted.append("%d waits %s" % (task, action[1]))
-        if wanted != closing:
-            raise Wrong("the tasks that wait are others")
+    def closed(self, closing, behind):
+        """The same behind the last entry, which stands before that line: who waits, and whether the closing lines say so."""
+        actions = {task: self.next(task) for task in range(len(self.threads)) if task not in self.ended}
+        for task, action in actions.items():
+            if not self.waits(action):
+                return "replay %d goes %d" % (behind, task)
+        wanted = ["%d waits %s" % (task, action[1]) for task, action in actions.items()]
+        if wanted == closing:
+            return "whole %d" % (behind - 1 + len(closing))
+        same = next((k for k, pair in enumerate(zip(wanted, closing)) if pair[0] != pair[1]), min(len(wanted), len(closing)))
+        return "replay %d rest" % (behind + same)
 
     def done(self, task, action):
         """Does an action, and gives its text."""
@@ -71,7 +79,7 @@ class Replay:
             return self.put(thread, *action[1:])
         if word == "start":
             return self.start(thread, action[1])
-        return self.take(thread, word, action[1], task)
+        return self.take(thread, action[1])
 
     def put(self, thread, box, message):
         text = "put %s #%d %s" % (box, self.puts[box], shape(self.program, message))
@@ -80,10 +88,8 @@ class Replay:
         thread.answered()
         return text
 
-    def take(self, thread, word, box, task):
+    def take(self, thread, box):
         if not self.queues[box]:
-            if word == "take":
-                raise Wrong("task %d takes from the empty mailbox %s" % (task, box))
             thread.answered(None)
             return "empty %s" % box
         number, message = self.queues[box].popleft()
@@ -99,13 +105,16 @@ class Replay:
         return text
 
 
+def verdict_of(program, main, steps, args, journal):
+    """What is so of the text of a journal: `whole LINES`, or what is wrong with it first."""
+    bad = bad_line(journal)
+    return "journal %d" % bad if bad else Replay(program, main, steps, args).verdict(journal.split("\n")[:-1])
+
+
 def fault_of(program, main, steps, args, journal):
     """What is wrong with a journal, or None."""
-    try:
-        Replay(program, main, steps, args).whole(journal.split("\n")[:-1])
-    except (Wrong, ValueError, IndexError) as fault:
-        return str(fault)
-    return None
+    verdict = verdict_of(program, main, steps, args, journal)
+    return None if verdict.startswith("whole ") else verdict
 
 
 def main():
@@ -113,9 +122,9 @@ def main():
     name, steps, args, files = words_read(words)
     with open(journal, encoding="ascii") as it:
         text = it.read()
-    fault = fault_of(Program([open(file, "rb").read() for file in files]), name, steps, args, text)
-    print(fault or "whole")
-    sys.exit(fault is not None)
+    verdict = verdict_of(Program([open(file, "rb").read() for file in files]), name, steps, args, text)
+    print(verdict)
+    sys.exit(not verdict.startswith("whole "))
 
 
 if __name__ == "__main__":

@@ -1,13 +1,15 @@
 -- Files by their names: words, and what was read.
-use Rattle.std.proofs.Common.{◌≡◌, ◌⊎◌, inl, inr, ℕ, zero, suc, ◌+◌, ◌<◌, List, [], ◌∷◌, ◌++◌, Option, Some, None, Err, refl, sym, ap, subst, ◌∙◌, length, map, take, slice_index_or, arith}
-use Rattle.std.specs.Prelude.{Contains, IsErrOf}
+use Rattle.std.proofs.Common.{◌≡◌, ◌⊎◌, inl, inr, ℕ, zero, suc, ◌+◌, ◌<◌, List, [], ◌∷◌, ◌++◌, Option, Some, None, Result, Ok, Err, refl, sym, ap, subst, ◌∙◌, length, length-append, append-nil, map, take, slice_index_or, arith}
+use Rattle.std.specs.Prelude.{Contains, IfOk, IsErrOf}
 use Rattle.kilim_outside.specs.declared.folder.FailedCall.{FailedCall}
 use Rattle.kilim_outside.specs.declared.folder.FailedCall.TheVariants.{Read}
 use Rattle.kilim_outside.specs.declared.folder.FolderFault.{FolderFault}
 use Rattle.kilim_outside.specs.declared.folder.FolderFault.TheVariants as folder
 use Rattle.kilim_outside.specs.Causes.{FolderCause}
 use Rattle.kilim_outside.specs.Files.{Files, ReadsFile, content_of, file_limit}
-use Rattle.kilim_command.specs.Reads.{OneFailed, ReadsCause, WasRead, WereRead}
+use Rattle.kilim_command.specs.Reads.{OneFailed, ReadsCause, WasRead, WereRead, WereReadBehind}
+use Rattle.kilim_command.specs.grammar.Parts.{journal_read}
+use Rattle.kilim_command.specs.grammar.Words.{Request, Check, Weave, Run, Replay, Demo, class_files, files_read}
 
 pub length_map : {A B : Type 0} (f : A → B) (xs : List A) → length (map f xs) ≡ length xs
 length_map f [] = refl
@@ -70,3 +72,87 @@ reads_cause f names i item now start before after e is lt named same cause = rec
   failed = λ failed. one_failed f names i item now start before after is lt named same (cause.failed (failed_again e folder.Failed failed));
   ok = tt;
 }
+
+-- ---- files that are read behind others
+
+were_joined : (contents : Option Files) (names behind read more : List (List ℕ)) → WereRead contents names read → WereRead contents behind more → WereRead contents (names ++ behind) (read ++ more)
+were_joined contents [] behind [] more were also = also
+were_joined contents (n ∷ names) behind (b ∷ read) more were also = (were.0, were_joined contents names behind read more were.1 also)
+were_joined contents [] behind (b ∷ read) more were also = absurd were
+were_joined contents (n ∷ names) behind [] more were also = absurd were
+
+pub nothing_behind : (contents : Option Files) (names read : List (List ℕ)) → names ≡ [] → WereReadBehind contents names read read
+nothing_behind contents names read none = subst (λ (ns : List (List ℕ)). WereReadBehind contents ns read read) (sym none) (record { more = []; read = tt; are = sym (append-nil read) })
+
+pub one_behind : (contents : Option Files) (names : List (List ℕ)) (name bytes : List ℕ) (read all : List (List ℕ)) → names ≡ name ∷ [] → WasRead contents name bytes → all ≡ read ++ bytes ∷ [] → WereReadBehind contents names read all
+one_behind contents names name bytes read all one was are = subst (λ (ns : List (List ℕ)). WereReadBehind contents ns read all) (sym one) (record { more = bytes ∷ []; read = (was, tt); are = are })
+
+files_in_parts : (r : Request) → class_files r ++ journal_read r ≡ files_read r
+files_in_parts (Check files) = append-nil files
+files_in_parts (Weave to files) = append-nil files
+files_in_parts (Run main workers steps args files) = append-nil files
+files_in_parts (Replay main journal steps args files) = refl
+files_in_parts (Demo number workers) = refl
+
+all_were_read : (r : Request) (contents now : Option Files) (names behind read all : List (List ℕ)) → names ≡ class_files r → behind ≡ journal_read r → now ≡ contents → WereRead contents names read → WereReadBehind now behind read all → WereRead contents (files_read r) all
+all_were_read r contents now names behind read all first last same were also =
+    let more = subst (λ (c : Option Files). WereRead c behind also.more) same also.read in
+    let joined = were_joined contents names behind read also.more were more in
+    let named = ap (λ (ns : List (List ℕ)). ns ++ behind) first ∙ (ap (λ (ns : List (List ℕ)). class_files r ++ ns) last ∙ files_in_parts r) in
+    subst (λ (bs : List (List ℕ)). WereRead contents (files_read r) bs) (sym also.are) (subst (λ (ns : List (List ℕ)). WereRead contents ns (read ++ also.more)) named joined)
+
+pub all_read_then : (r : Request) (contents now : Option Files) (names behind read : List (List ℕ)) (result : Result (List (List ℕ)) FolderFault) → names ≡ class_files r → behind ≡ journal_read r → now ≡ contents → WereRead contents names read →
+    IfOk result (WereReadBehind now behind read) → IfOk result (WereRead contents (files_read r))
+all_read_then r contents now names behind read (Ok all) first last same were also = all_were_read r contents now names behind read all first last same were also
+all_read_then r contents now names behind read (Err e) first last same were also = tt
+
+in_front : (names behind : List (List ℕ)) (i : ℕ) (x : List ℕ) → i < length names → slice_index_or (names ++ behind) i x ≡ slice_index_or names i x
+in_front [] behind i x lt = absurd (omega arith)
+in_front (n ∷ names) behind zero x lt = refl
+in_front (n ∷ names) behind (suc i) x lt = in_front names behind i x (omega arith)
+
+none_more : (i : ℕ) → 0 + i ≡ i
+none_more i = omega arith
+
+one_more : (n i : ℕ) → suc n + i ≡ suc (n + i)
+one_more n i = omega arith
+
+in_back : (names behind : List (List ℕ)) (i : ℕ) (x : List ℕ) → slice_index_or (names ++ behind) (length names + i) x ≡ slice_index_or behind i x
+in_back [] behind i x = ap (λ (k : ℕ). slice_index_or behind k x) (none_more i)
+in_back (n ∷ names) behind i x = ap (λ (k : ℕ). slice_index_or (n ∷ (names ++ behind)) k x) (one_more (length names) i) ∙ in_back names behind i x
+
+one_in_front : (names behind : List (List ℕ)) (start after : List FailedCall) → OneFailed names start after → OneFailed (names ++ behind) start after
+one_in_front names behind start after one =
+    let is = one.1 in
+    (one.0, (is.0, let lt = is.1 in omega (arith, lt, length-append names behind), in_front names behind is.0 one.0 is.1 ∙ is.2), one.2)
+
+one_in_back : (names behind : List (List ℕ)) (start after : List FailedCall) → OneFailed behind start after → OneFailed (names ++ behind) start after
+one_in_back names behind start after one =
+    let is = one.1 in
+    (one.0, (length names + is.0, let lt = is.1 in omega (arith, lt, length-append names behind), in_back names behind is.0 one.0 ∙ is.2), one.2)
+
+in_all : (r : Request) (names behind : List (List ℕ)) (start after : List FailedCall) → names ≡ class_files r → behind ≡ journal_read r → OneFailed (names ++ behind) start after → OneFailed (files_read r) start after
+in_all r names behind start after first last one =
+    subst (λ (ns : List (List ℕ)). OneFailed ns start after) (ap (λ (ns : List (List ℕ)). ns ++ behind) first ∙ (ap (λ (ns : List (List ℕ)). class_files r ++ ns) last ∙ files_in_parts r)) one
+
+pub first_failed : {T U : Type 0} (r : Request) (names : List (List ℕ)) (start after : List FailedCall) (e : FolderFault) → names ≡ class_files r → ReadsCause {T = T} names start after (Err e) → ReadsCause {T = U} (files_read r) start after (Err e)
+first_failed r names start after e first cause = record {
+  own = own_as cause.own;
+  failed = λ failed. in_all r names (journal_read r) start after first refl (one_in_front names (journal_read r) start after (cause.failed (failed_again e folder.Failed failed)));
+  ok = tt;
+}
+  where
+    own_as : (after ≡ start) ⊎ OneFailed names start after → (after ≡ start) ⊎ OneFailed (files_read r) start after
+    own_as (inl e) = inl e
+    own_as (inr one) = inr (in_all r names (journal_read r) start after first refl (one_in_front names (journal_read r) start after one))
+
+pub last_failed : {T : Type 0} (r : Request) (behind : List (List ℕ)) (start mid after : List FailedCall) (result : Result T FolderFault) → behind ≡ journal_read r → mid ≡ start → ReadsCause behind mid after result → ReadsCause (files_read r) start after result
+last_failed {T} r behind start mid after result last same cause =
+    subst (λ (calls : List FailedCall). ReadsCause {T = T} (files_read r) calls after result) same (record { own = own_as cause.own; failed = λ failed. placed (cause.failed failed); ok = cause.ok })
+  where
+    placed : OneFailed behind mid after → OneFailed (files_read r) mid after
+    placed one = in_all r (class_files r) behind mid after refl last (one_in_back (class_files r) behind mid after one)
+
+    own_as : (after ≡ mid) ⊎ OneFailed behind mid after → (after ≡ mid) ⊎ OneFailed (files_read r) mid after
+    own_as (inl e) = inl e
+    own_as (inr one) = inr (placed one)

@@ -17,6 +17,12 @@ WereRead contents [] [] = Unit {0}
 WereRead contents (name ∷ names) (bytes ∷ files) = WasRead contents name bytes × WereRead contents names files
 WereRead contents names files = ⊥
 
+-- of these names more was read, behind what was read before
+pub record WereReadBehind (contents : Option Files) (names before all : List (List ℕ)) : Type 0 where
+  pub more : List (List ℕ)
+  pub read : WereRead contents names more
+  pub are : all ≡ before ++ more
+
 -- the read of one of the names failed, and no other call
 abbrev pub OneFailed : List (List ℕ) → List FailedCall → List FailedCall → Type 0
 OneFailed names before now = (name : List ℕ) × Contains names name × (now ≡ before ++ Read name ∷ [])

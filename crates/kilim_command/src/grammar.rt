@@ -4,4 +4,4 @@ mod asked;
 mod numbers;
 mod options;
 
-pub use asked::{Asked, DemoWords, RunWords, WeaveWords, integers, request};
+pub use asked::{Asked, DemoWords, ReplayWords, RunWords, WeaveWords, integers, request};

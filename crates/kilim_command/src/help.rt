@@ -3,12 +3,13 @@
 /// What `--help` writes: at most 24 lines of 80 columns.
 pub const HELP: &str = "kilim checks, weaves and runs Java class files of isolation-typed actors.
 
-    kilim check FILE..             says whether the files are accepted
+    kilim check FILE..             writes accepted CLASSES METHODS, or faults
     kilim weave --to=DIR FILE..    writes woven class files below DIR
     kilim run --main=NAME [--workers=W] [--steps=N] FILE.. [-- INT..]
                                    runs a task class, and writes its journal
-    kilim demo --number=D [--workers=W]
-                                   runs a program made from the number D
+    kilim replay --main=NAME --journal=FILE [--steps=N] FILE.. [-- INT..]
+                                   writes whole LINES, or which line is wrong
+    kilim demo --number=D [--workers=W]    runs a program made from a number
     kilim --help, kilim --version  write this text, the version
 
 NAME is the internal name of the main class, as app/Main. FILE is a class file,
@@ -17,10 +18,9 @@ most instructions of each task, or else 1000000; the INTs are for kilim/Sys.arg.
 A journal has a line for each event: a task's number, what it did: 0 print 7
 
 Status  Standard error  Meaning
-0                       accepted CLASSES METHODS, a line for each woven file,
-                        the whole journal, or the demo's line was written
+0                       the work was done, and its text was written whole
 1                       a report was written: of class files, linking, typing,
-                        rules, weaving, or main NAME (no such class can be run)
+                        rules, weaving, a journal, or main NAME (can't be run)
 2       usage           the words aren't as above
 3       read            a file can't be read
 4       write           the text, or a file, can't be written

@@ -13,7 +13,7 @@ mod run_text;
 mod status;
 mod writing;
 
-pub use inputs::read_all;
+pub use inputs::{read_all, read_asked};
 pub use line::demo_line;
 pub use program::{complain, own_text, show, words};
 pub use report::{accepted_line, no_main};

@@ -7,7 +7,7 @@ ghost use Rattle.kilim_command.specs.Report.{utf16_of};
 ghost use Rattle.kilim_command.specs.RunText.{demo_number};
 ghost use Rattle.kilim_command.specs.Words.{limits_of, workers_of};
 
-use crate::grammar::{Asked, RunWords, integers};
+use crate::grammar::{Asked, integers};
 use crate::report::utf16_of;
 use kilim_run_state::Limits;
 use kilim_units::NoMemory;
@@ -21,6 +21,7 @@ pub fn workers_of(asked: &Asked<'_>) -> u64
         Asked::Check(_) => 1,
         Asked::Weave(_) => 1,
         Asked::Run(words) => words.workers,
+        Asked::Replay(_) => 1,
         Asked::Demo(words) => words.workers,
     }
 }
@@ -42,20 +43,18 @@ pub struct Start {
     pub limits: Limits,
 }
 
-/// What a run of these words begins with. The error is want of memory.
-pub fn start_of(alloc: Global, words: &RunWords<'_>) -> Result<Start, NoMemory>
-    ensures main { IfOk result (λ start. start.main.items ≡ utf16_of words.now.main.now) }
-    ensures limits { IfOk result (λ start. start.limits ≡ limits_of words.now.steps (numbers_of (map string_bytes words.now.args.now))) }
+/// What a run begins with, by the name of its main class, how many instructions each task may do, and the words behind `--`. The error is
+/// want of memory.
+pub fn start_of(alloc: Global, main: &str, steps: u64, args: &[String]) -> Result<Start, NoMemory>
+    ensures main { IfOk result (λ start. start.main.items ≡ utf16_of main.now) }
+    ensures limits { IfOk result (λ start. start.limits ≡ limits_of steps (numbers_of (map string_bytes args.now))) }
 {
-    let Ok(main) = utf16_of(alloc, words.main) else {
+    let Ok(main) = utf16_of(alloc, main) else {
         return Err(NoMemory);
     };
-    let Ok(args) = integers(alloc, words.args) else {
+    let Ok(args) = integers(alloc, args) else {
         return Err(NoMemory);
     };
-    let limits = Limits {
-        steps: words.steps,
-        args,
-    };
+    let limits = Limits { steps, args };
     Ok(Start { main, limits })
 }

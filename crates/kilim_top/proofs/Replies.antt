@@ -1,5 +1,5 @@
 -- What is answered for files: what the work makes, or a report, and never both.
-use Rattle.std.proofs.Common.{◌≡◌, ℕ, ℤ, ◌≤◌, true, List, [], length, Option, Some, None, Result, Ok, Err, refl, sym, ap, subst, inl, inr, ◌∙◌}
+use Rattle.std.proofs.Common.{◌≡◌, ℕ, ℤ, ◌≤◌, ◌<◌, true, List, [], ◌∷◌, length, take, drop, get_or, Option, Some, None, Result, Ok, Err, refl, sym, ap, subst, inl, inr, ◌∙◌, arith}
 use Rattle.std.specs.Prelude.{IfOk}
 use Rattle.kilim_units.specs.declared.memory.NoMemory.{NoMemory}
 use Rattle.kilim_program.specs.declared.names.ClassId.{ClassId}
@@ -19,7 +19,9 @@ use Rattle.kilim_weave_file_command.specs.Weaving.{IsWeaving}
 use Rattle.kilim_weave_file_command.specs.woven_files.Reports.{IsWeaveReport}
 use Rattle.kilim_weave.specs.Faults.{weave_fault}
 use Rattle.kilim_weave.specs.declared.weaving.Woven.{Woven}
-use Rattle.kilim_command.specs.grammar.Words.{Request, Check, Weave, Run, Demo}
+use Rattle.kilim_command.specs.grammar.Words.{Request, Check, Weave, Run, Replay, Demo}
+use Rattle.kilim_replay_command.specs.Laws.{NeverWholeAndReported}
+use Rattle.kilim_replay_command.specs.Replay.{IsReplayReport}
 use Rattle.kilim_stages.specs.woven_stage.Laws.{WovenIsNotReported}
 use Rattle.kilim_stages.specs.woven_stage.Reports.{IsWovenReport}
 use Rattle.kilim_stages.specs.woven_stage.Stage.{IsWithMain, IsWovenOf}
@@ -29,7 +31,7 @@ use Rattle.kilim_top.specs.declared.answer.Reply.{Reply}
 use Rattle.kilim_top.specs.declared.answer.Ready.{Ready}
 use Rattle.kilim_top.specs.declared.answer.Ready.TheVariants as ready
 use Rattle.kilim_top.specs.Inside.Answer.{IsMainOf, IsNoMain, IsReadyFor, IsReadyOf, IsRefusedBy, IsReplyFor, IsToRun, IsWithoutMain}
-use Rattle.kilim_top.specs.Outcome.{IsDone, IsFitFor, IsFitRun, IsReport, coded_methods}
+use Rattle.kilim_top.specs.Outcome.{IsDone, IsFitFor, IsFitRun, IsReport, class_texts, coded_methods, first_text, text_behind}
 use Rattle.kilim_command.specs.Report.{accepted_line, named_line, utf16_of}
 use Rattle.kilim_command.specs.RunText.{demo_number, run_text}
 use Rattle.kilim_command.specs.Words.{limits_of}
@@ -43,7 +45,7 @@ use Rattle.kilim_top.proofs.WholeRun.{to_run}
 
 -- ---- never both
 
-module _ (both : NeverBoth) (one : OneProgramOf) (weavable : NeverWeavableAndReported) (woven : WovenIsNotReported) where
+module _ (both : NeverBoth) (one : OneProgramOf) (weavable : NeverWeavableAndReported) (replays : NeverWholeAndReported) (woven : WovenIsNotReported) where
   never_run : (main : List ℕ) (workers steps : ℕ) (args : List ℤ) (names files : List (List ℕ)) (text : List ℕ) → IsFitRun main files → IsReport (Run main workers steps args names) files text → ⊥
   never_run main workers steps args names files text fit (inl stage) = woven names files text fit.program fit.accepted fit.none (inl stage)
   never_run main workers steps args names files text fit (inr (inl method)) = woven names files text fit.program fit.accepted fit.none (inr method)
@@ -61,6 +63,7 @@ module _ (both : NeverBoth) (one : OneProgramOf) (weavable : NeverWeavableAndRep
   never (Check names) files text fit report = both names files text fit.0 fit.1 report
   never (Weave to names) files text fit report = weavable names files text fit report
   never (Run main workers steps args names) files text fit report = never_run main workers steps args names files text fit report
+  never (Replay main journal steps args names) files text fit report = replays names (utf16_of main) (limits_of steps args) (class_texts names files) (text_behind names files) text fit report
   never (Demo number workers) files text fit report = never_demo number text fit.0 fit.1 fit.2 report
 
 pub fit_of : (work : Request) (files : List (List ℕ)) (made : List OutputFile) (text : List ℕ) → IsDone work files made text → IsFitFor work files
@@ -69,6 +72,7 @@ fit_of (Weave to names) files made text done =
     let woven = done.weaving.are_woven in
     record { program = woven.program; accepted = woven.accepted; none = woven.none; classes = woven.classes; are_files = woven.are_files; fit = woven.fit }
 fit_of (Run main workers steps args names) files made text done = done.1.0
+fit_of (Replay main journal steps args names) files made text done = done.1.whole
 fit_of (Demo number workers) files made text done = (done.1.program, done.1.accepted, done.1.none)
 
 -- ---- from an accepted program to the bytes of its files
@@ -166,3 +170,27 @@ pub woven_reply : (to : List ℕ) (names files : List (List ℕ)) (made : List O
 woven_reply to names files made text law few weaving =
     let woven = weaving.are_woven in
     inl (refl, record { program = woven.program; accepted = woven.accepted; isolated = λ class fit limits live sound. law files woven.program few woven.accepted class fit limits live sound; weaving = weaving })
+
+-- ---- a journal that is replayed
+
+behind_is : (names files classes behind : List (List ℕ)) (text : List ℕ) (n : ℕ) → n ≡ length names → behind ≡ drop n files → text ≡ get_or behind 0 text → 0 < length behind → text_behind names files ≡ text
+behind_is names files classes [] text n many is at some = absurd (omega (arith, some))
+behind_is names files classes (b ∷ bs) text n many is at some = sym (ap (λ (k : ℕ). first_text (drop k files)) many) ∙ (ap first_text (sym is) ∙ sym at)
+
+module _ (main journal : List ℕ) (steps : ℕ) (args : List ℤ) (names files classes behind : List (List ℕ)) (text name : List ℕ) (limits : Limits) (n : ℕ) (many : n ≡ length names) (front : classes ≡ take n files) (back : behind ≡ drop n files)
+    (at : text ≡ get_or behind 0 text) (some : 0 < length behind) (named : name ≡ utf16_of main) (limited : limits ≡ limits_of steps args) where
+  classes_are : classes ≡ class_texts names files
+  classes_are = front ∙ ap (λ (k : ℕ). take k files) many
+
+  text_is : text ≡ text_behind names files
+  text_is = sym (behind_is names files classes behind text n many back at some)
+
+  report_is : (report : List ℕ) → IsReplayReport names name limits classes text report → IsReport (Replay main journal steps args names) files report
+  report_is report is =
+      subst (λ (nm : List ℕ). IsReplayReport names nm (limits_of steps args) (class_texts names files) (text_behind names files) report) named
+      (subst (λ (l : Limits). IsReplayReport names name l (class_texts names files) (text_behind names files) report) limited
+      (subst (λ (cs : List (List ℕ)). IsReplayReport names name limits cs (text_behind names files) report) classes_are (subst (λ (t : List ℕ). IsReplayReport names name limits classes t report) text_is is)))
+
+  pub refused_replay : (refusal : Refusal) (r : Result Ready NoMemory) → Refused refusal (IsReplayReport names name limits classes text) → IfOk r (IsRefusedBy refusal) → IfOk r (IsReadyFor (Replay main journal steps args names) files)
+  refused_replay refusal r said by =
+      refused_ready (Replay main journal steps args names) files refusal r (refused_as (IsReplayReport names name limits classes text) (IsReport (Replay main journal steps args names) files) refusal report_is said) by

@@ -3,7 +3,8 @@ use Rattle.std.proofs.Common.{◌≡◌, ◌⊎◌, ℕ, List, [], Some, sym, su
 use Rattle.kilim_outside.specs.Causes.{Appended}
 use Rattle.kilim_stages.specs.Laws.{NeverBoth, OneProgramOf}
 use Rattle.kilim_weave_file_command.specs.Laws.{NeverWeavableAndReported}
-use Rattle.kilim_command.specs.grammar.Words.{Request, Check, Weave, Run, Demo}
+use Rattle.kilim_command.specs.grammar.Words.{Request, Check, Weave, Run, Replay, Demo}
+use Rattle.kilim_replay_command.specs.Laws.{NeverWholeAndReported}
 use Rattle.kilim_stages.specs.woven_stage.Laws.{WovenIsNotReported}
 use Rattle.kilim_outside.specs.written.OutputFile.{OutputFile}
 use Rattle.kilim_outside.specs.written.Written.{HaveOwnPaths, WroteFiles}
@@ -25,6 +26,7 @@ paths_of_done : (work : Request) (files : List (List ℕ)) (made : List OutputFi
 paths_of_done (Check names) files made text done = no_paths made done.0
 paths_of_done (Weave to names) files made text done = done.weaving.own_paths
 paths_of_done (Run main workers steps args names) files made text done = no_paths made done.0
+paths_of_done (Replay main journal steps args names) files made text done = no_paths made done.0
 paths_of_done (Demo number workers) files made text done = no_paths made done.0
 
 own_paths : (work : Request) (files : List (List ℕ)) (made : List OutputFile) (text : List ℕ) → IsToWrite work files made text → HaveOwnPaths made
@@ -38,6 +40,7 @@ none_done : (work : Request) (files : List (List ℕ)) (made : List OutputFile) 
 none_done (Check names) files made text done none = done.0
 none_done (Weave to names) files made text done none = absurd (none tt)
 none_done (Run main workers steps args names) files made text done none = done.0
+none_done (Replay main journal steps args names) files made text done none = done.0
 none_done (Demo number workers) files made text done none = done.0
 
 no_files : (work : Request) (files : List (List ℕ)) (made : List OutputFile) (text : List ℕ) → IsToWrite work files made text → (AsksForFiles (Some work) → ⊥) → made ≡ []
@@ -98,7 +101,7 @@ module _ (work : Request) (files : List (List ℕ)) (made : List OutputFile) (te
     contents = kept to stays (λ e. omega (arith, e));
   }
 
-  module _ (both : NeverBoth) (one : OneProgramOf) (weavable : NeverWeavableAndReported) (woven : WovenIsNotReported) (status : ℕ) where
+  module _ (both : NeverBoth) (one : OneProgramOf) (weavable : NeverWeavableAndReported) (replays : NeverWholeAndReported) (woven : WovenIsNotReported) (status : ℕ) where
     done_at : status ≡ 0 → IsDone work files made text → WroteFiles made old.contents new.contents → new.failed ≡ old.failed → new.faults ≡ old.faults → Appended old.written new.written text → Stays → Responded work files old new status
     done_at is done were_made failed quiet written stays = record {
       known = omega (arith, is);
@@ -109,7 +112,7 @@ module _ (work : Request) (files : List (List ℕ)) (made : List OutputFile) (te
       write = λ e. absurd (omega (arith, is, e));
       memory = λ e. absurd (omega (arith, is, e));
       fit = λ e fit. zero_one status is e;
-      unreported = λ e other report. never both one weavable woven work files other (fit_of work files made text done) report;
+      unreported = λ e other report. never both one weavable replays woven work files other (fit_of work files made text done) report;
       quiet = λ e. quiet;
       failed = λ e. failed;
       contents = kept (inl done) stays (zero_one status is);
@@ -124,7 +127,7 @@ module _ (work : Request) (files : List (List ℕ)) (made : List OutputFile) (te
       report = λ e. record { text = text; report = report; written = written };
       write = λ e. absurd (omega (arith, is, e));
       memory = λ e. absurd (omega (arith, is, e));
-      fit = λ e fit. never both one weavable woven work files text fit report;
+      fit = λ e fit. never both one weavable replays woven work files text fit report;
       unreported = λ e. absurd (zero_one status e is);
       quiet = λ e. quiet;
       failed = λ e. failed;

@@ -1,6 +1,6 @@
 -- What the top call promises: what each status says of what was read, and of what was written. From `Promises` it is three
 -- steps to what a whole run is: `WroteText`, `IsWholeRun`, and `Whole` of kilim_run_model.
-use Rattle.std.specs.Prelude.{◌≡◌, ℕ, true, List, [], ◌∷◌, ◌++◌, take, map, length, Option, Some, None, Contains, ◌≤◌, ◌↔◌, ◌⊎◌}
+use Rattle.std.specs.Prelude.{◌≡◌, ℕ, true, List, [], ◌∷◌, ◌++◌, take, drop, map, length, Option, Some, None, Contains, ◌≤◌, ◌↔◌, ◌⊎◌}
 use Rattle.std.specs.List.{filter}
 use Rattle.kilim_program.specs.Program.{Program}
 use Rattle.kilim_program.specs.declared.class.Method.{Method}
@@ -20,13 +20,14 @@ use Rattle.kilim_run_model.specs.Reach.{Liveness, PlaysIsolated}
 use Rattle.kilim_run_model.specs.Runs.{Whole}
 use Rattle.kilim_run_model.specs.State.{Setting}
 use Rattle.kilim_type_spec.specs.Typed.{Live, has_code}
-use Rattle.kilim_command.specs.grammar.Words.{Request, Check, Weave, Run, Demo, files_read}
+use Rattle.kilim_command.specs.grammar.Words.{Request, Check, Weave, Run, Replay, Demo, files_read}
 use Rattle.kilim_outside.specs.written.OutputFile.{OutputFile}
 use Rattle.kilim_outside.specs.written.Written.{HasFailed, StoppedAtFile, WroteFiles}
 use Rattle.kilim_weave_file_command.specs.Weaving.{IsWeavable, IsWeaving}
 use Rattle.kilim_weave.specs.Faults.{weave_fault}
 use Rattle.kilim_weave_file_command.specs.woven_files.Reports.{IsWeaveReport}
 use Rattle.kilim_stages.specs.woven_stage.Reports.{IsMethodReport}
+use Rattle.kilim_replay_command.specs.Replay.{IsReplayReport, IsReplayed, IsWholeJournal}
 use Rattle.kilim_top.specs.demo.Demo.{demo_texts, IsDemoLine, IsDemoReport}
 use Rattle.kilim_stages.specs.Accepted.{IsAcceptedOf}
 use Rattle.kilim_stages.specs.Reports.{IsStageReport}
@@ -93,11 +94,23 @@ pub record IsWeave (to : List ℕ) (files : List (List ℕ)) (made : List Output
   pub isolated : (class : ClassId) → is_fit_main program class ≡ true → (limits : Limits) → IsIsolatedRun program class limits
   pub weaving : IsWeaving to files made text
 
+-- of what is read to replay a journal: the class files, as many as there are names, and the journal's text behind them
+abbrev pub class_texts : (names files : List (List ℕ)) → List (List ℕ)
+class_texts names files = take (length names) files
+
+abbrev pub first_text : List (List ℕ) → List ℕ
+first_text [] = []
+first_text (text ∷ texts) = text
+
+abbrev pub text_behind : (names files : List (List ℕ)) → List ℕ
+text_behind names files = first_text (drop (length names) files)
+
 -- the work that is asked for can be done with these files
 abbrev pub IsFitFor : Request → List (List ℕ) → Type 0
 IsFitFor (Check names) files = (program : Program) × IsAcceptedOf files program
 IsFitFor (Weave to names) files = IsWeavable files
 IsFitFor (Run main workers steps args names) files = IsFitRun main files
+IsFitFor (Replay main journal steps args names) files = IsWholeJournal (utf16_of main) (limits_of steps args) (class_texts names files) (text_behind names files)
 IsFitFor (Demo number workers) files = (program : Program) × IsAcceptedOf (demo_texts number) program × (weave_fault program ≡ None)
 
 -- what is written where it was done: the files that are made, and then a text
@@ -105,6 +118,7 @@ abbrev pub IsDone : Request → List (List ℕ) → List OutputFile → List ℕ
 IsDone (Check names) files made text = (made ≡ []) × IsCheck files text
 IsDone (Weave to names) files made text = IsWeave to files made text
 IsDone (Run main workers steps args names) files made text = (made ≡ []) × (IsFitRun main files × IsWholeRun main (limits_of steps args) files text)
+IsDone (Replay main journal steps args names) files made text = (made ≡ []) × IsReplayed (utf16_of main) (limits_of steps args) (class_texts names files) (text_behind names files) text
 IsDone (Demo number workers) files made text = (made ≡ []) × IsDemoLine number text
 
 -- ---- reports: lines with their line feeds
@@ -122,6 +136,7 @@ abbrev pub IsReport : Request → List (List ℕ) → List ℕ → Type 0
 IsReport (Check names) files text = IsStageReport names files text
 IsReport (Weave to names) files text = IsWeaveReport names files text
 IsReport (Run main workers steps args names) files text = IsStageReport names files text ⊎ (IsMethodReport files text ⊎ IsMainReport main files text)
+IsReport (Replay main journal steps args names) files text = IsReplayReport names (utf16_of main) (limits_of steps args) (class_texts names files) (text_behind names files) text
 IsReport (Demo number workers) files text = IsDemoReport number text
 
 -- ---- the outside

@@ -1,17 +1,18 @@
 //! From the bytes of class files to the text that is written.
 
-ghost use Rattle.std.specs.Prelude.{◌≡◌, ◌≤◌, IfOk, length, map};
+ghost use Rattle.std.specs.Prelude.{◌≡◌, ◌≤◌, ◌+◌, IfOk, length, map};
 ghost use Rattle.std.specs.String.{string_bytes};
 ghost use Rattle.kilim_command.specs.grammar.Parts.{meant, numbers_of};
-ghost use Rattle.kilim_command.specs.grammar.Words.{Check, Run, Weave, files_read};
+ghost use Rattle.kilim_command.specs.grammar.Words.{Check, Replay, Run, Weave, class_files, files_read};
 ghost use Rattle.kilim_top.specs.Inside.Answer.{IsReadyFor, IsReadyOf, IsRefusedBy, IsWithoutMain};
 
 use crate::demo::demo_ready;
 use crate::laws::woven_is_served;
-use kilim_command::grammar::{Asked, RunWords, WeaveWords};
+use kilim_command::grammar::{Asked, ReplayWords, RunWords, WeaveWords};
 use kilim_command::{DONE, REPORTED, Start, accepted_line, no_main, start_of};
 use kilim_outside::written::OutputFile;
 use kilim_program::{ClassId, Program};
+use kilim_replay_command::replay_files;
 use kilim_run_state::Limits;
 use kilim_stages::woven_stage::{WovenProgram, with_main, woven_program};
 use kilim_stages::{Refusal, accepted, coded_methods};
@@ -82,7 +83,7 @@ fn run_ready(alloc: Global, words: &RunWords<'_>, files: &[Seq<u8>]) -> Result<R
 {
     accepted_files_are_isolated();
     woven_is_served();
-    let start = start_of(alloc, words)?;
+    let start = start_of(alloc, words.main, words.steps, words.args)?;
     match woven_program(alloc, words.files, files) {
         Ok(program) => program_ready(alloc, start, program),
         Err(refusal) => refused(alloc, refusal),
@@ -129,9 +130,31 @@ fn weave_ready(alloc: Global, words: &WeaveWords<'_>, files: &[Seq<u8>]) -> Resu
     }
 }
 
+// What is to be done for the bytes of class files, and of a journal that is to be replayed behind them.
+fn replay_ready(
+    alloc: Global,
+    words: &ReplayWords<'_>,
+    files: &[Seq<u8>],
+) -> Result<Ready, NoMemory>
+    requires few { length words.now.files.now ≤ 1000 }
+    requires same { length words.now.files.now + 1 ≡ length files.now }
+    ensures { IfOk result (λ ready. IsReadyFor (Replay words.now.main.now words.now.journal.now words.now.steps (numbers_of (map string_bytes words.now.args.now)) (map string_bytes words.now.files.now)) files.now ready) }
+{
+    let start = start_of(alloc, words.main, words.steps, words.args)?;
+    let (classes, behind) = files.split_at(words.files.len());
+    match replay_files(alloc, words.files, classes, &start, behind[0].as_slice()) {
+        Ok(text) => Ok(Ready::Reply(Reply {
+            status: DONE,
+            files: Vec::new(alloc),
+            text,
+        })),
+        Err(refusal) => refused(alloc, refusal),
+    }
+}
+
 /// What is to be done for the bytes of the files that the words name.
 pub fn prepare(alloc: Global, asked: &Asked<'_>, files: &[Seq<u8>]) -> Result<Ready, NoMemory>
-    requires few { length files.now ≤ 1000 }
+    requires few { length (class_files (meant asked.now)) ≤ 1000 }
     requires same { length (files_read (meant asked.now)) ≡ length files.now }
     ensures { IfOk result (λ ready. IsReadyFor (meant asked.now) files.now ready) }
 {
@@ -139,6 +162,7 @@ pub fn prepare(alloc: Global, asked: &Asked<'_>, files: &[Seq<u8>]) -> Result<Re
         Asked::Check(names) => check_ready(alloc, names, files),
         Asked::Weave(words) => weave_ready(alloc, words, files),
         Asked::Run(words) => run_ready(alloc, words, files),
+        Asked::Replay(words) => replay_ready(alloc, words, files),
         Asked::Demo(words) => demo_ready(alloc, words.number),
     }
 }

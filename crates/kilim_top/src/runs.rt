@@ -3,7 +3,7 @@
 ghost use Rattle.std.specs.Prelude.{◌≡◌, ◌≤◌, [], IfOk, length};
 ghost use Rattle.kilim_run_journal.specs.Readable.{IsReadable};
 ghost use Rattle.kilim_command.specs.grammar.Parts.{meant};
-ghost use Rattle.kilim_command.specs.grammar.Words.{files_read};
+ghost use Rattle.kilim_command.specs.grammar.Words.{class_files, files_read};
 ghost use Rattle.kilim_top.specs.Inside.Answer.{IsReplyFor};
 ghost use Rattle.kilim_command.specs.RunText.{run_text};
 
@@ -40,7 +40,7 @@ pub fn reply_alone<G: Gate>(
     files: &[Seq<u8>],
     gate: &G,
 ) -> Result<Reply, NoMemory>
-    requires few { length files.now ≤ 1000 }
+    requires few { length (class_files (meant asked.now)) ≤ 1000 }
     requires same { length (files_read (meant asked.now)) ≡ length files.now }
     ensures { IfOk result (λ reply. IsReplyFor (meant asked.now) files.now reply.status reply.files.items reply.text.items) }
 {
@@ -67,7 +67,7 @@ pub fn reply_with<R: Threads + Wait + Sync, G: Gate>(
     files: &[Seq<u8>],
     gate: &G,
 ) -> Result<Reply, NoMemory>
-    requires few { length files.now ≤ 1000 }
+    requires few { length (class_files (meant asked.now)) ≤ 1000 }
     requires same { length (files_read (meant asked.now)) ≡ length files.now }
     ensures { IfOk result (λ reply. IsReplyFor (meant asked.now) files.now reply.status reply.files.items reply.text.items) }
 {

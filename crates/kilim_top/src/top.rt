@@ -19,7 +19,8 @@ use std::thread::Threads;
 /// status, and None where a run needs more than one worker, with nothing done.
 ///
 /// The words are those after the program's name: `check FILE..`, `weave --to=DIR FILE..`,
-/// `run --main=NAME [--workers=W] [--steps=N] FILE.. [-- INT..]`, each with at most 1,000 files, or `demo --number=D [--workers=W]`. The
+/// `run --main=NAME [--workers=W] [--steps=N] FILE.. [-- INT..]`, `replay --main=NAME --journal=FILE [--steps=N] FILE.. [-- INT..]`, each
+/// with at most 1,000 files, or `demo --number=D [--workers=W]`. The
 /// status is 0 where the work was done, and its files and its text were written whole: that the class files are accepted; woven files,
 /// and a line for each; the run's journal; or the line of the demo. It is 1 where a report was: that a file is no class file, or the
 /// class files don't link, or break rules of typing, isolation or pausing, or can't be woven, or have no such main class; 2 where the

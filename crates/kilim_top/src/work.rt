@@ -2,7 +2,7 @@
 
 ghost use Rattle.std.specs.Prelude.{◌≡◌, ◌≤◌, Some, length};
 ghost use Rattle.kilim_command.specs.grammar.Parts.{meant};
-ghost use Rattle.kilim_command.specs.grammar.Words.{files_read};
+ghost use Rattle.kilim_command.specs.grammar.Words.{class_files};
 ghost use Rattle.kilim_top.specs.Inside.Answer.{IsReplyFor};
 ghost use Rattle.kilim_top.specs.Inside.Respond.{Responded};
 ghost use Rattle.kilim_top.specs.Outcome.{Promises, shown};
@@ -10,9 +10,10 @@ ghost use Rattle.kilim_top.specs.Outcome.{Promises, shown};
 use crate::answer::Reply;
 use crate::runs::{reply_alone, reply_with};
 use kilim_command::grammar::Asked;
-use kilim_command::{NO_MEMORY, UNREAD, UNWRITTEN, read_all, write_all};
+use kilim_command::{NO_MEMORY, UNREAD, UNWRITTEN, read_asked, write_all};
 use kilim_outside::written::write_files;
 use kilim_outside::{Folder, FolderFault, Gate, SinkFault, TextSink};
+use kilim_replay_command::never_whole_and_reported;
 use kilim_stages::woven_stage::woven_is_not_reported;
 use kilim_stages::{never_both, one_program_of};
 use kilim_units::Seq;
@@ -35,6 +36,7 @@ fn respond<F: Folder, K: TextSink>(
     never_both();
     one_program_of();
     never_weavable_and_reported();
+    never_whole_and_reported();
     woven_is_not_reported();
     let _asked = asked;
     let _bytes = bytes;
@@ -57,11 +59,11 @@ pub fn work_alone<F: Folder, K: TextSink, G: Gate>(
     out: &mut K,
     gate: &G,
 ) -> u8
-    requires { length (files_read (meant asked.now)) ≤ 1000 }
+    requires { length (class_files (meant asked.now)) ≤ 1000 }
     ensures promises { Promises (Some (meant asked.now)) (shown (F.contents files.old) (F.faults files.old) (K.written out.old) (K.faults out.old)) (shown (F.contents files.new) (F.faults files.new) (K.written out.new) (K.faults out.new)) result }
     ensures untouched { result ≡ UNREAD → out.new ≡ out.old }
 {
-    match read_all(alloc, asked.files(), files) {
+    match read_asked(alloc, asked, files) {
         Ok(read) => {
             let bytes = read.as_slice();
             match reply_alone(alloc, asked, bytes, gate) {
@@ -83,11 +85,11 @@ pub fn work_with<R: Threads + Wait + Sync, F: Folder, K: TextSink, G: Gate>(
     out: &mut K,
     gate: &G,
 ) -> u8
-    requires { length (files_read (meant asked.now)) ≤ 1000 }
+    requires { length (class_files (meant asked.now)) ≤ 1000 }
     ensures promises { Promises (Some (meant asked.now)) (shown (F.contents files.old) (F.faults files.old) (K.written out.old) (K.faults out.old)) (shown (F.contents files.new) (F.faults files.new) (K.written out.new) (K.faults out.new)) result }
     ensures untouched { result ≡ UNREAD → out.new ≡ out.old }
 {
-    match read_all(alloc, asked.files(), files) {
+    match read_asked(alloc, asked, files) {
         Ok(read) => {
             let bytes = read.as_slice();
             match reply_with(rt, alloc, asked, bytes, gate) {

@@ -5,7 +5,7 @@ use Rattle.std.specs.List.{list_all}
 use Rattle.kilim_command.specs.declared.grammar.options.Values.{Values}
 use Rattle.kilim_command.specs.grammar.Numbers.{int_by}
 use Rattle.kilim_command.specs.grammar.Parts.{Tells, numbers_or}
-use Rattle.kilim_command.specs.grammar.Words.{Request, are_files, args_in, default_steps, demo_request, demo_with, is_demo_option, is_file, is_option, is_weave_option, main_option, most_number, most_steps, most_workers, number_of, number_option, number_or, run_of, run_with, steps_option, text_in, to_option, value_behind, value_or, values_of, weave_of, weave_with, with_first, ints_of, workers_option}
+use Rattle.kilim_command.specs.grammar.Words.{Request, are_files, args_in, default_steps, demo_request, demo_with, file_in, is_demo_option, is_file, is_option, is_replay_option, is_weave_option, journal_option, main_option, most_number, most_steps, most_workers, number_of, number_option, number_or, replay_of, replay_with, run_of, run_with, steps_option, text_in, to_option, value_behind, value_or, values_of, weave_of, weave_with, with_first, ints_of, workers_option}
 
 pub all_map : {A B : Type 0} (f : A → B) (test : B → Bool) (xs : List A) → list_all (λ x. test (f x)) xs ≡ list_all test (map f xs)
 all_map f test [] = refl
@@ -61,6 +61,21 @@ run_taken o f b z r e n s = s ∙ sym (ap (λ (y : Bool). cond y (asked_run o f 
 pub with_same : (f : List (List ℕ)) (m m' : Option (List ℕ)) (w w' s s' : Option ℕ) (a a' : Option (List ℤ)) → m ≡ m' → w ≡ w' → s ≡ s' → a ≡ a' → run_with f m w s a ≡ run_with f m' w' s' a'
 with_same f m m' w w' s s' a a' p q r t =
     ap (λ (x : Option (List ℕ)). run_with f x w s a) p ∙ (ap (λ (x : Option ℕ). run_with f m' x s a) q ∙ (ap (λ (x : Option ℕ). run_with f m' w' x a) r ∙ ap (λ (x : Option (List ℤ)). run_with f m' w' s' x) t))
+
+-- ---- what `replay` is asked
+
+abbrev asked_replay : (options files behind : List (List ℕ)) → Option Request
+asked_replay o f b = replay_with f (text_in (values_of main_option o)) (file_in (values_of journal_option o)) (number_or default_steps most_steps (values_of steps_option o)) (args_in b)
+
+pub replay_refused : (o f b : List (List ℕ)) (z : Bool) → z ≡ (list_all is_replay_option o && are_files f) → z ≡ false → None ≡ replay_of o f b
+replay_refused o f b z e n = sym (ap (λ (y : Bool). cond y (asked_replay o f b) None) (sym e ∙ n))
+
+pub replay_taken : (o f b : List (List ℕ)) (z : Bool) (r : Option Request) → z ≡ (list_all is_replay_option o && are_files f) → z ≡ true → r ≡ asked_replay o f b → r ≡ replay_of o f b
+replay_taken o f b z r e n s = s ∙ sym (ap (λ (y : Bool). cond y (asked_replay o f b) None) (sym e ∙ n))
+
+pub replay_same : (f : List (List ℕ)) (m m' j j' : Option (List ℕ)) (s s' : Option ℕ) (a a' : Option (List ℤ)) → m ≡ m' → j ≡ j' → s ≡ s' → a ≡ a' → replay_with f m j s a ≡ replay_with f m' j' s' a'
+replay_same f m m' j j' s s' a a' p q r t =
+    ap (λ (x : Option (List ℕ)). replay_with f x j s a) p ∙ (ap (λ (x : Option (List ℕ)). replay_with f m' x s a) q ∙ (ap (λ (x : Option ℕ). replay_with f m' j' x a) r ∙ ap (λ (x : Option (List ℤ)). replay_with f m' j' s' x) t))
 
 -- ---- what `demo` is asked
 

@@ -4,7 +4,7 @@ use Rattle.std.proofs.lemmas.List.{drop-map, take-map}
 use Rattle.std.specs.Prelude.{IfSome}
 use Rattle.kilim_command.specs.declared.grammar.asked.Asked.{Asked}
 use Rattle.kilim_command.specs.grammar.Parts.{meant}
-use Rattle.kilim_command.specs.grammar.Words.{Request, files_read}
+use Rattle.kilim_command.specs.grammar.Words.{Request, class_files}
 use Rattle.kilim_command.proofs.grammar.Mapped.{length_map}
 
 pub split_of : {A : Type 0} (g : A → List ℕ) (f : List (List ℕ) → List (List ℕ) → Option Request) (r : Option Request) (words front back : List A) (n k : ℕ) → n ≡ k → front ≡ take n words → back ≡ drop n words →
@@ -17,6 +17,6 @@ split_of {A} g f r words front back n k count is_front is_back made =
     ∙ (ap (λ (ws : List (List ℕ)). f (take n (map g words)) ws) (sym (drop-map g n words)) ∙ ap (λ (m : ℕ). f (take m (map g words)) (drop m (map g words))) count))))
 
 -- the files that are asked for are not too many
-pub few_files : {A : Type 0} (g : A → List ℕ) (r : Option Asked) (files : List A) → length files ≤ 1000 → IfSome r (λ asked. files_read (meant asked) ≡ map g files) → IfSome r (λ asked. length (files_read (meant asked)) ≤ 1000)
+pub few_files : {A : Type 0} (g : A → List ℕ) (r : Option Asked) (files : List A) → length files ≤ 1000 → IfSome r (λ asked. class_files (meant asked) ≡ map g files) → IfSome r (λ asked. length (class_files (meant asked)) ≤ 1000)
 few_files g None files few is = tt
 few_files g (Some asked) files few is = subst (λ (n : ℕ). n ≤ 1000) (sym (ap (λ (ws : List (List ℕ)). length ws) is ∙ length_map g files)) few

@@ -5,7 +5,7 @@ use Rattle.kilim_command.specs.declared.grammar.options.Values.{Values}
 use Rattle.kilim_command.specs.declared.grammar.options.Values.TheVariants as values
 use Rattle.kilim_command.specs.declared.grammar.asked.Asked.{Asked}
 use Rattle.kilim_command.specs.declared.grammar.asked.Asked.TheVariants as asked
-use Rattle.kilim_command.specs.grammar.Words.{Request, Check, Weave, Run, Demo, ints_of, value_behind}
+use Rattle.kilim_command.specs.grammar.Words.{Request, Check, Weave, Run, Replay, Demo, ints_of, value_behind}
 use Rattle.kilim_command.specs.grammar.Numbers.{int_by}
 
 -- the values of an option, as far as they matter
@@ -30,4 +30,15 @@ abbrev pub meant : Asked → Request
 meant (asked.Check files) = Check (map string_bytes files.now)
 meant (asked.Weave weave) = Weave weave.to.now (map string_bytes weave.files.now)
 meant (asked.Run run) = Run run.main.now run.workers run.steps (numbers_of (map string_bytes run.args.now)) (map string_bytes run.files.now)
+meant (asked.Replay replay) = Replay replay.main.now replay.journal.now replay.steps (numbers_of (map string_bytes replay.args.now)) (map string_bytes replay.files.now)
 meant (asked.Demo demo) = Demo demo.number demo.workers
+
+-- the journal that a command reads behind its class files
+abbrev pub journal_read : Request → List (List ℕ)
+journal_read (Replay main journal steps args files) = journal ∷ []
+journal_read request = []
+
+-- a word or none, as a list of words
+abbrev pub listed_word : Option (List ℕ) → List (List ℕ)
+listed_word None = []
+listed_word (Some word) = word ∷ []

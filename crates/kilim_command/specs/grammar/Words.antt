@@ -3,10 +3,11 @@
 --     check FILE..
 --     weave --to=DIR FILE..
 --     run --main=NAME [--workers=W] [--steps=N] FILE.. [-- INT..]
+--     replay --main=NAME --journal=FILE [--steps=N] FILE.. [-- INT..]
 --     demo --number=D [--workers=W]
 --
 -- The command is the first word. Options stand behind it, in any order, each at most once.
-use Rattle.std.specs.Prelude.{ℕ, suc, take, ℤ, Bool, false, ◌&&◌, ◌||◌, not, ◌==◌, nat_eq, nat_lt, nat_le, if◌then◌else◌, is_some, length, drop, List, [], ◌∷◌, Option, Some, None, codes}
+use Rattle.std.specs.Prelude.{ℕ, suc, take, ℤ, Bool, false, ◌&&◌, ◌||◌, not, ◌==◌, nat_eq, nat_lt, nat_le, if◌then◌else◌, is_some, length, drop, List, [], ◌∷◌, ◌++◌, Option, Some, None, codes}
 use Rattle.std.specs.List.{starts_with, list_all}
 use Rattle.std.specs.Str.{bytes_eq}
 use Rattle.kilim_units.specs.Characters.{hyphen}
@@ -20,6 +21,8 @@ pub data Request : Type 0 where
   Weave : (to : List ℕ) (files : List (List ℕ)) → Request
   -- to run the main class of these files, with so many workers, at most so many instructions of each task, and these numbers
   Run : (main : List ℕ) (workers steps : ℕ) (args : List ℤ) (files : List (List ℕ)) → Request
+  -- to check a journal, in a file of that name, against the main class of these files, with the limits of a run
+  Replay : (main journal : List ℕ) (steps : ℕ) (args : List ℤ) (files : List (List ℕ)) → Request
   -- to run the demo of a number, with so many workers
   Demo : (number workers : ℕ) → Request
 
@@ -70,6 +73,12 @@ steps_option = codes "--steps="
 abbrev pub is_option : List ℕ → Bool
 is_option word = is_some (value_behind main_option word) || (is_some (value_behind workers_option word) || is_some (value_behind steps_option word))
 
+abbrev pub journal_option : List ℕ
+journal_option = codes "--journal="
+
+abbrev pub is_replay_option : List ℕ → Bool
+is_replay_option word = is_some (value_behind main_option word) || (is_some (value_behind journal_option word) || is_some (value_behind steps_option word))
+
 abbrev pub number_option : List ℕ
 number_option = codes "--number="
 
@@ -86,6 +95,11 @@ is_weave_option word = is_some (value_behind to_option word)
 abbrev pub text_in : List (List ℕ) → Option (List ℕ)
 text_in ((b ∷ bs) ∷ []) = Some (b ∷ bs)
 text_in values = None
+
+-- the name of a file in an option: it stands, and could stand among the files
+abbrev pub file_in : List (List ℕ) → Option (List ℕ)
+file_in (name ∷ []) = if is_file name then Some name else None
+file_in values = None
 
 -- a number from 1 to `most`, or the default where the option doesn't stand
 abbrev pub number_or : ℕ → ℕ → List (List ℕ) → Option ℕ
@@ -171,6 +185,22 @@ run_behind options others = run_of options (take (count_plain others) others) (d
 abbrev pub run_request : List (List ℕ) → Option Request
 run_request words = run_behind (take (count_hyphened words) words) (drop (count_hyphened words) words)
 
+abbrev pub replay_with : List (List ℕ) → Option (List ℕ) → Option (List ℕ) → Option ℕ → Option (List ℤ) → Option Request
+replay_with files (Some main) (Some journal) (Some steps) (Some args) = Some (Replay main journal steps args files)
+replay_with files main journal steps args = None
+
+abbrev pub replay_of : (options files behind : List (List ℕ)) → Option Request
+replay_of options files behind =
+    if list_all is_replay_option options && are_files files then
+    replay_with files (text_in (values_of main_option options)) (file_in (values_of journal_option options)) (number_or default_steps most_steps (values_of steps_option options)) (args_in behind)
+    else None
+
+abbrev pub replay_behind : (options others : List (List ℕ)) → Option Request
+replay_behind options others = replay_of options (take (count_plain others) others) (drop (count_plain others) others)
+
+abbrev pub replay_request : List (List ℕ) → Option Request
+replay_request words = replay_behind (take (count_hyphened words) words) (drop (count_hyphened words) words)
+
 abbrev pub demo_with : Option ℕ → Option ℕ → Option Request
 demo_with (Some number) (Some workers) = Some (Demo number workers)
 demo_with number workers = None
@@ -189,12 +219,22 @@ request_of (command ∷ words) =
     if bytes_eq command (codes "check") then check_request words
     else (if bytes_eq command (codes "weave") then weave_request words
     else (if bytes_eq command (codes "run") then run_request words
+    else (if bytes_eq command (codes "replay") then replay_request words
     else (if bytes_eq command (codes "demo") then demo_request words
-    else None)))
+    else None))))
 
--- the files that a command reads
+-- the class files that a command reads
+abbrev pub class_files : Request → List (List ℕ)
+class_files (Check files) = files
+class_files (Weave to files) = files
+class_files (Run main workers steps args files) = files
+class_files (Replay main journal steps args files) = files
+class_files (Demo number workers) = []
+
+-- all files that a command reads, in their order: a journal is read behind the class files
 abbrev pub files_read : Request → List (List ℕ)
 files_read (Check files) = files
 files_read (Weave to files) = files
 files_read (Run main workers steps args files) = files
+files_read (Replay main journal steps args files) = files ++ journal ∷ []
 files_read (Demo number workers) = []

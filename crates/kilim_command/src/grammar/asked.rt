@@ -6,12 +6,13 @@ ghost use Rattle.std.specs.List.{list_all};
 ghost use Rattle.std.specs.Str.{bytes_eq};
 ghost use Rattle.std.specs.String.{string_bytes};
 ghost use Rattle.kilim_command.specs.grammar.Numbers.{int_by};
-ghost use Rattle.kilim_command.specs.grammar.Parts.{is_int, meant, numbers_of};
-ghost use Rattle.kilim_command.specs.grammar.Words.{are_files, args_in, check_request, count_hyphened, count_plain, demo_request, demo_with, files_read, ints_of, is_file, is_hyphened, is_option, request_of, run_behind, run_of, run_request, run_with, value_behind, is_weave_option, weave_of, weave_request, weave_with};
+ghost use Rattle.kilim_command.specs.grammar.Parts.{is_int, journal_read, listed_word, meant, numbers_of};
+ghost use Rattle.kilim_command.specs.grammar.Words.{are_files, args_in, check_request, class_files, count_hyphened, count_plain, demo_request, demo_with, file_in, ints_of, is_file, is_hyphened, is_option, is_replay_option, journal_option, replay_behind, replay_of, replay_request, replay_with, request_of, run_behind, run_of, run_request, run_with, value_behind, values_of, is_weave_option, weave_of, weave_request, weave_with};
 
 use crate::grammar::numbers::int_of;
 use crate::grammar::options::{
-    are_demo_options, are_options, are_weave_options, demo_number, number_or, text_in,
+    Values, are_demo_options, are_options, are_replay_options, are_weave_options, demo_number,
+    number_or, text_in, values_of,
 };
 use kilim_units::{NoMemory, Seq};
 use std::alloc::Global;
@@ -38,6 +39,20 @@ pub struct RunWords<'a> {
     pub files: &'a [String],
 }
 
+/// What `replay` is given.
+#[derive(Drop)]
+pub struct ReplayWords<'a> {
+    /// The name of the main class.
+    pub main: &'a str,
+    /// The file with the journal.
+    pub journal: &'a str,
+    /// The most instructions of each task.
+    pub steps: u64,
+    /// The words behind `--`, of which each writes an integer of 32 bits.
+    pub args: &'a [String],
+    pub files: &'a [String],
+}
+
 /// What `demo` is given.
 #[derive(Clone, Copy)]
 pub struct DemoWords {
@@ -53,19 +68,31 @@ pub enum Asked<'a> {
     Check(&'a [String]),
     Weave(WeaveWords<'a>),
     Run(RunWords<'a>),
+    Replay(ReplayWords<'a>),
     Demo(DemoWords),
 }
 
 impl Asked<'_> {
-    /// The words that name files.
+    /// The words that name class files.
     pub fn files(&self) -> &[String]
-        ensures { map string_bytes result.now ≡ files_read (meant self.now) }
+        ensures { map string_bytes result.now ≡ class_files (meant self.now) }
     {
         match self {
             Asked::Check(files) => files,
             Asked::Weave(weave) => weave.files,
             Asked::Run(run) => run.files,
+            Asked::Replay(replay) => replay.files,
             Asked::Demo(_) => &[],
+        }
+    }
+
+    /// The name of the file with a journal, which is read behind the class files.
+    pub fn journal(&self) -> Option<&str>
+        ensures { listed_word (option_copied result) ≡ journal_read (meant self.now) }
+    {
+        match self {
+            Asked::Replay(replay) => Some(replay.journal),
+            _ => None,
         }
     }
 }
@@ -206,7 +233,7 @@ fn args_in(words: &[String]) -> Option<&[String]>
 }
 
 fn check_request(files: &[String]) -> Option<Asked<'_>>
-    ensures few { IfSome result (λ asked. length (files_read (meant asked)) ≤ 1000) }
+    ensures few { IfSome result (λ asked. length (class_files (meant asked)) ≤ 1000) }
     ensures request { option_map meant result ≡ check_request (map string_bytes files.now) }
 {
     if are_files(files) {
@@ -225,7 +252,7 @@ fn can_weave(options: &[String], files: &[String]) -> bool
 }
 
 fn weave_with<'a>(files: &'a [String], to: Option<&'a str>) -> Option<Asked<'a>>
-    ensures files { IfSome result (λ asked. files_read (meant asked) ≡ map string_bytes files.now) }
+    ensures files { IfSome result (λ asked. class_files (meant asked) ≡ map string_bytes files.now) }
     ensures request { option_map meant result ≡ weave_with (map string_bytes files.now) (option_copied to.entry) }
 {
     match to {
@@ -235,7 +262,7 @@ fn weave_with<'a>(files: &'a [String], to: Option<&'a str>) -> Option<Asked<'a>>
 }
 
 fn weave_of<'a>(options: &'a [String], files: &'a [String]) -> Option<Asked<'a>>
-    ensures few { IfSome result (λ asked. length (files_read (meant asked)) ≤ 1000) }
+    ensures few { IfSome result (λ asked. length (class_files (meant asked)) ≤ 1000) }
     ensures request { option_map meant result ≡ weave_of (map string_bytes options.now) (map string_bytes files.now) }
 {
     if !can_weave(options, files) {
@@ -245,7 +272,7 @@ fn weave_of<'a>(options: &'a [String], files: &'a [String]) -> Option<Asked<'a>>
 }
 
 fn weave_request(words: &[String]) -> Option<Asked<'_>>
-    ensures few { IfSome result (λ asked. length (files_read (meant asked)) ≤ 1000) }
+    ensures few { IfSome result (λ asked. length (class_files (meant asked)) ≤ 1000) }
     ensures request { option_map meant result ≡ weave_request (map string_bytes words.now) }
 {
     let (options, files) = words.split_at(count_hyphened(words));
@@ -261,7 +288,7 @@ fn are_well(options: &[String], files: &[String]) -> bool
 }
 
 fn run_of<'a>(options: &'a [String], files: &'a [String], behind: &'a [String]) -> Option<Asked<'a>>
-    ensures few { IfSome result (λ asked. length (files_read (meant asked)) ≤ 1000) }
+    ensures few { IfSome result (λ asked. length (class_files (meant asked)) ≤ 1000) }
     ensures request { option_map meant result ≡ run_of (map string_bytes options.now) (map string_bytes files.now) (map string_bytes behind.now) }
 {
     if !are_well(options, files) {
@@ -280,7 +307,7 @@ fn run_with<'a>(
     steps: Option<u64>,
     args: Option<&'a [String]>,
 ) -> Option<Asked<'a>>
-    ensures files { IfSome result (λ asked. files_read (meant asked) ≡ map string_bytes files.now) }
+    ensures files { IfSome result (λ asked. class_files (meant asked) ≡ map string_bytes files.now) }
     ensures request { option_map meant result ≡ run_with (map string_bytes files.now) (option_copied main.entry) workers steps (option_map (λ ws. numbers_of (map string_bytes ws)) (option_copied args.entry)) }
 {
     match (main, workers, steps, args) {
@@ -296,7 +323,7 @@ fn run_with<'a>(
 }
 
 fn run_behind<'a>(options: &'a [String], others: &'a [String]) -> Option<Asked<'a>>
-    ensures few { IfSome result (λ asked. length (files_read (meant asked)) ≤ 1000) }
+    ensures few { IfSome result (λ asked. length (class_files (meant asked)) ≤ 1000) }
     ensures request { option_map meant result ≡ run_behind (map string_bytes options.now) (map string_bytes others.now) }
 {
     let (files, behind) = others.split_at(count_plain(others));
@@ -304,15 +331,90 @@ fn run_behind<'a>(options: &'a [String], others: &'a [String]) -> Option<Asked<'
 }
 
 fn run_request(words: &[String]) -> Option<Asked<'_>>
-    ensures few { IfSome result (λ asked. length (files_read (meant asked)) ≤ 1000) }
+    ensures few { IfSome result (λ asked. length (class_files (meant asked)) ≤ 1000) }
     ensures request { option_map meant result ≡ run_request (map string_bytes words.now) }
 {
     let (options, others) = words.split_at(count_hyphened(words));
     run_behind(options, others)
 }
 
+// The name of the file with the journal.
+fn journal_in<'a>(options: &'a [String]) -> Option<&'a str>
+    ensures { option_copied result ≡ file_in (values_of journal_option (map string_bytes options.now)) }
+{
+    match values_of("--journal=", options) {
+        Values::One(name) if is_file(name) => Some(name),
+        _ => None,
+    }
+}
+
+// Whether the options of `replay` are well, and the files.
+fn can_replay(options: &[String], files: &[String]) -> bool
+    ensures can { result ≡ (list_all is_replay_option (map string_bytes options.now) && are_files (map string_bytes files.now)) }
+    ensures few { result ≡ true → length files.now ≤ 1000 }
+{
+    are_replay_options(options) && are_files(files)
+}
+
+fn replay_of<'a>(
+    options: &'a [String],
+    files: &'a [String],
+    behind: &'a [String],
+) -> Option<Asked<'a>>
+    ensures few { IfSome result (λ asked. length (class_files (meant asked)) ≤ 1000) }
+    ensures request { option_map meant result ≡ replay_of (map string_bytes options.now) (map string_bytes files.now) (map string_bytes behind.now) }
+{
+    if !can_replay(options, files) {
+        return None;
+    }
+    let main = text_in("--main=", options);
+    let journal = journal_in(options);
+    let steps = number_or(1000000, 100000000, "--steps=", options);
+    replay_with(files, main, journal, steps, args_in(behind))
+}
+
+fn replay_with<'a>(
+    files: &'a [String],
+    main: Option<&'a str>,
+    journal: Option<&'a str>,
+    steps: Option<u64>,
+    args: Option<&'a [String]>,
+) -> Option<Asked<'a>>
+    ensures files { IfSome result (λ asked. class_files (meant asked) ≡ map string_bytes files.now) }
+    ensures request { option_map meant result ≡ replay_with (map string_bytes files.now) (option_copied main.entry) (option_copied journal.entry) steps (option_map (λ ws. numbers_of (map string_bytes ws)) (option_copied args.entry)) }
+{
+    match (main, journal, steps, args) {
+        (Some(main), Some(journal), Some(steps), Some(args)) => {
+            Some(Asked::Replay(ReplayWords {
+                main,
+                journal,
+                steps,
+                args,
+                files,
+            }))
+        }
+        _ => None,
+    }
+}
+
+fn replay_behind<'a>(options: &'a [String], others: &'a [String]) -> Option<Asked<'a>>
+    ensures few { IfSome result (λ asked. length (class_files (meant asked)) ≤ 1000) }
+    ensures request { option_map meant result ≡ replay_behind (map string_bytes options.now) (map string_bytes others.now) }
+{
+    let (files, behind) = others.split_at(count_plain(others));
+    replay_of(options, files, behind)
+}
+
+fn replay_request(words: &[String]) -> Option<Asked<'_>>
+    ensures few { IfSome result (λ asked. length (class_files (meant asked)) ≤ 1000) }
+    ensures request { option_map meant result ≡ replay_request (map string_bytes words.now) }
+{
+    let (options, others) = words.split_at(count_hyphened(words));
+    replay_behind(options, others)
+}
+
 fn demo_with<'a>(number: Option<u64>, workers: Option<u64>) -> Option<Asked<'a>>
-    ensures few { IfSome result (λ asked. length (files_read (meant asked)) ≤ 1000) }
+    ensures few { IfSome result (λ asked. length (class_files (meant asked)) ≤ 1000) }
     ensures request { option_map meant result ≡ demo_with number workers }
 {
     match (number, workers) {
@@ -322,7 +424,7 @@ fn demo_with<'a>(number: Option<u64>, workers: Option<u64>) -> Option<Asked<'a>>
 }
 
 fn demo_request<'a>(words: &'a [String]) -> Option<Asked<'a>>
-    ensures few { IfSome result (λ asked. length (files_read (meant asked)) ≤ 1000) }
+    ensures few { IfSome result (λ asked. length (class_files (meant asked)) ≤ 1000) }
     ensures request { option_map meant result ≡ demo_request (map string_bytes words.now) }
 {
     if !are_demo_options(words) {
@@ -333,13 +435,14 @@ fn demo_request<'a>(words: &'a [String]) -> Option<Asked<'a>>
 
 // What a command asks for with the words behind it.
 fn asked_by<'a>(command: &str, words: &'a [String]) -> Option<Asked<'a>>
-    ensures few { IfSome result (λ asked. length (files_read (meant asked)) ≤ 1000) }
+    ensures few { IfSome result (λ asked. length (class_files (meant asked)) ≤ 1000) }
     ensures request { option_map meant result ≡ request_of (command.now ∷ map string_bytes words.now) }
 {
     match command {
         "check" => check_request(words),
         "weave" => weave_request(words),
         "run" => run_request(words),
+        "replay" => replay_request(words),
         "demo" => demo_request(words),
         _ => None,
     }
@@ -348,7 +451,7 @@ fn asked_by<'a>(command: &str, words: &'a [String]) -> Option<Asked<'a>>
 /// What the words ask for, or nothing where they aren't in the grammar (specs/Words.antt). At most 1,000 files are named.
 /// It takes no memory.
 pub fn request(words: &[String]) -> Option<Asked<'_>>
-    ensures few { IfSome result (λ asked. length (files_read (meant asked)) ≤ 1000) }
+    ensures few { IfSome result (λ asked. length (class_files (meant asked)) ≤ 1000) }
     ensures request { option_map meant result ≡ request_of (map string_bytes words.now) }
 {
     match words {

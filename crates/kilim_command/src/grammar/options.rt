@@ -5,7 +5,7 @@ ghost use Rattle.std.specs.Option.{option_copied, option_map};
 ghost use Rattle.std.specs.List.{list_all};
 ghost use Rattle.std.specs.String.{string_bytes};
 ghost use Rattle.kilim_command.specs.grammar.Parts.{Tells};
-ghost use Rattle.kilim_command.specs.grammar.Words.{value_or, is_demo_option, is_option, is_weave_option, number_of, number_option, number_or, steps_option, text_in, to_option, value_behind, values_of, workers_option};
+ghost use Rattle.kilim_command.specs.grammar.Words.{value_or, is_demo_option, is_option, is_replay_option, is_weave_option, number_of, number_option, number_or, steps_option, text_in, to_option, value_behind, values_of, workers_option};
 
 use crate::grammar::numbers::{number_in, value_behind};
 
@@ -53,6 +53,26 @@ pub fn are_options(words: &[String]) -> bool
 {
     for word in words {
         if !is_option(word.as_str()) {
+            return false;
+        }
+    }
+    true
+}
+
+fn is_replay_option(word: &str) -> bool
+    ensures { result ≡ is_replay_option word.now }
+{
+    value_behind("--main=", word).is_some()
+        || value_behind("--journal=", word).is_some()
+        || value_behind("--steps=", word).is_some()
+}
+
+/// Whether all of these words are options of `replay`.
+pub fn are_replay_options(words: &[String]) -> bool
+    ensures { result ≡ list_all is_replay_option (map string_bytes words.now) }
+{
+    for word in words {
+        if !is_replay_option(word.as_str()) {
             return false;
         }
     }
