@@ -6,3 +6,4 @@ pub mod Together
 pub mod Numbered
 pub mod Left
 pub mod Loops
+pub mod Marks

@@ -1,6 +1,6 @@
 -- The mark of a graph: a number by which different graphs are mostly told apart at once. That it is a function of the graph is
 -- all that matters of it.
-use Rattle.std.specs.Prelude.{ℕ, ◌+◌, ◌*◌, ◌%◌, ◌^◌, if◌then◌else◌, List, [], ◌∷◌, Option, Some, None}
+use Rattle.std.specs.Prelude.{ℕ, suc, ◌+◌, ◌*◌, ◌%◌, ◌^◌, if◌then◌else◌, List, [], ◌∷◌, Option, Some, None}
 use Rattle.kilim_isolation_graph.specs.declared.graph.Graph.{Graph}
 use Rattle.kilim_isolation_graph.specs.declared.node.Label.{Label}
 use Rattle.kilim_isolation_graph.specs.declared.node.Label.TheVariants.{Field, Element}
@@ -20,6 +20,15 @@ slot_mixed mark (Some node) = mixed (mixed mark 1) node
 abbrev pub slots_mixed : ℕ → List (Option ℕ) → ℕ
 slots_mixed mark [] = mark
 slots_mixed mark (slot ∷ slots) = slots_mixed (slot_mixed mark slot) slots
+
+-- a slot that names a node, with its number
+abbrev pub local_mixed : ℕ → ℕ → Option ℕ → ℕ
+local_mixed mark at None = mark
+local_mixed mark at (Some node) = mixed (mixed mark at) node
+
+abbrev pub locals_mixed : ℕ → ℕ → List (Option ℕ) → ℕ
+locals_mixed mark at [] = mark
+locals_mixed mark at (slot ∷ slots) = locals_mixed (local_mixed mark at slot) (suc at) slots
 
 abbrev pub standing_number : Standing → ℕ
 standing_number Root = 2
@@ -43,4 +52,4 @@ nodes_mixed mark [] = mark
 nodes_mixed mark (node ∷ nodes) = nodes_mixed (node_mixed mark node) nodes
 
 unfoldable pub mark_of : Graph → ℕ
-mark_of g = slots_mixed (slots_mixed (nodes_mixed 0 g.nodes) g.stack) g.locals
+mark_of g = locals_mixed (slots_mixed (nodes_mixed 0 g.nodes) g.stack) 0 g.locals

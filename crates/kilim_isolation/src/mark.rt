@@ -24,12 +24,32 @@ fn slot_mixed(mark: u64, slot: Option<usize>) -> u64
     }
 }
 
+fn local_mixed(mark: u64, at: usize, slot: Option<usize>) -> u64
+    ensures { result ≡ spec.local_mixed mark at slot }
+{
+    match slot {
+        None => mark,
+        Some(node) => mixed(mixed(mark, at as u64), node as u64),
+    }
+}
+
 fn slots_mixed(mark: u64, slots: &[Option<usize>]) -> u64
     ensures { result ≡ spec.slots_mixed mark slots.now }
 {
     let mut mark = mark;
     for slot in slots {
         mark = slot_mixed(mark, *slot);
+    }
+    mark
+}
+
+// The slots that name a node, with their numbers.
+fn locals_mixed(mark: u64, slots: &[Option<usize>]) -> u64
+    ensures { result ≡ spec.locals_mixed mark 0 slots.now }
+{
+    let mut mark = mark;
+    for (at, slot) in slots.iter().enumerate() {
+        mark = local_mixed(mark, at, *slot);
     }
     mark
 }
@@ -81,11 +101,12 @@ fn nodes_mixed(mark: u64, nodes: &[Node]) -> u64
 }
 
 /// The mark of a graph.
-#[tactic(auto, unfolding(crate::specs::Mark::mark_of))]
+#[tactic(auto, using(crate::proofs::Marks::tail_mixed), unfolding(crate::specs::Mark::mark_of))]
 pub fn mark_of(graph: &Graph) -> u64
     ensures { result ≡ spec.mark_of graph.now }
 {
     let nodes = nodes_mixed(0, graph.nodes.as_slice());
     let stack = slots_mixed(nodes, graph.stack.as_slice());
-    slots_mixed(stack, graph.locals.as_slice())
+    let (front, _) = graph.locals.parts();
+    locals_mixed(stack, front)
 }

@@ -74,12 +74,13 @@ fn same_graphs(a: &Graph, b: &Graph) -> bool
 {
     same_nodes(a.nodes.as_slice(), b.nodes.as_slice())
         && same_slots(a.stack.as_slice(), b.stack.as_slice())
-        && same_slots(a.locals.as_slice(), b.locals.as_slice())
+        && a.locals.is_same(&b.locals)
 }
 
 // About how many bytes a graph takes.
 fn weight_of(graph: &Graph) -> usize {
-    let slots = graph.locals.len().saturating_add(graph.stack.len());
+    let (locals, _) = graph.locals.parts();
+    let slots = locals.len().saturating_add(graph.stack.len());
     let nodes = graph.nodes.len().saturating_mul(96);
     slots
         .saturating_mul(32)

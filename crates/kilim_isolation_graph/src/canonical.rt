@@ -9,6 +9,7 @@ use crate::graph::Graph;
 use crate::node::{Label, Node, node_at};
 use crate::order::{Order, firsts};
 use crate::reversed::turned;
+use crate::slots::Slots;
 use crate::types::type_at;
 use kilim_program::{Frame, VType};
 use kilim_units::{NoMemory, Seq};
@@ -28,6 +29,15 @@ fn push_named(slots: &[Option<usize>], named: &mut Seq<usize>) -> Result<(), NoM
     Ok(())
 }
 
+// The nodes that locals name, behind those that are there.
+#[tactic(auto, using(crate::proofs::Fronts::named_front))]
+fn push_locals(locals: &Slots, named: &mut Seq<usize>) -> Result<(), NoMemory>
+    ensures { IfOk result (λ u. named.new ≡ named.old ++ form.named locals.now) }
+{
+    let (front, _) = locals.parts();
+    push_named(front, named)
+}
+
 fn slots_of(alloc: Global, graph: &Graph) -> Result<Seq<usize>, NoMemory>
     ensures { IfOk result (λ named. named ≡ form.slots_of graph.now) }
 {
@@ -35,7 +45,7 @@ fn slots_of(alloc: Global, graph: &Graph) -> Result<Seq<usize>, NoMemory>
         return Err(NoMemory);
     };
     let mut named = Seq::new(alloc);
-    let Ok(()) = push_named(graph.locals.as_slice(), &mut named) else {
+    let Ok(()) = push_locals(&graph.locals, &mut named) else {
         return Err(NoMemory);
     };
     let Ok(()) = push_named(&stack, &mut named) else {
@@ -105,6 +115,17 @@ fn slots_in(
     Ok(new)
 }
 
+#[tactic(auto, using(crate::proofs::Fronts::renumbered_front))]
+fn locals_in(alloc: Global, order: &Order, locals: &Slots) -> Result<Slots, NoMemory>
+    ensures { IfOk result (λ new. new ≡ map (form.renumbered order.now) locals.now) }
+{
+    let (front, more) = locals.parts();
+    let Ok(new) = slots_in(alloc, order, front) else {
+        return Err(NoMemory);
+    };
+    Ok(Slots::new(new, more))
+}
+
 fn nodes_in(alloc: Global, nodes: &[Node], order: &Order) -> Result<Seq<Node>, NoMemory>
     ensures { IfOk result (λ new. new ≡ map (form.canonical_node nodes.now order.now) order.now) }
 {
@@ -158,11 +179,23 @@ fn kept_names(
     Ok(new)
 }
 
+// The locals, but those of type Top name nothing.
+#[tactic(auto, using(crate::proofs::Fronts::kept_front))]
+fn kept_locals(alloc: Global, types: &[VType], locals: &Slots) -> Result<Slots, NoMemory>
+    ensures { IfOk result (λ new. new ≡ form.kept_names types.now locals.now) }
+{
+    let (front, more) = locals.parts();
+    let Ok(new) = kept_names(alloc, types, front) else {
+        return Err(NoMemory);
+    };
+    Ok(Slots::new(new, more))
+}
+
 // The graph with these nodes alone, numbered in their order.
 fn ordered(alloc: Global, graph: &Graph, order: &Order) -> Result<Graph, NoMemory>
     ensures { IfOk result (λ new. new ≡ record { locals = map (form.renumbered order.now) graph.now.locals; stack = map (form.renumbered order.now) graph.now.stack; nodes = map (form.canonical_node graph.now.nodes order.now) order.now }) }
 {
-    let Ok(locals) = slots_in(alloc, order, graph.locals.as_slice()) else {
+    let Ok(locals) = locals_in(alloc, order, &graph.locals) else {
         return Err(NoMemory);
     };
     let Ok(stack) = slots_in(alloc, order, graph.stack.as_slice()) else {
@@ -207,7 +240,7 @@ fn stack_names(
 fn cleared(alloc: Global, graph: &Graph, frame: &Frame) -> Result<Graph, NoMemory>
     ensures { IfOk result (λ new. new ≡ form.cleared (frame_types frame.now) graph.now) }
 {
-    let Ok(locals) = kept_names(alloc, frame.locals.as_slice(), graph.locals.as_slice()) else {
+    let Ok(locals) = kept_locals(alloc, frame.locals.as_slice(), &graph.locals) else {
         return Err(NoMemory);
     };
     let Ok(stack) = stack_names(alloc, frame.stack.as_slice(), graph.stack.as_slice()) else {

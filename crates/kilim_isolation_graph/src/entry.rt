@@ -7,6 +7,7 @@ ghost use Rattle.kilim_isolation_graph.specs.Nodes as list;
 
 use crate::graph::Graph;
 use crate::node::{Node, Standing};
+use crate::slots::Slots;
 use kilim_program::{Base, Kind, Method, Program, Qualifier, Ty};
 use kilim_units::{NoMemory, Seq};
 use std::alloc::Global;
@@ -129,18 +130,6 @@ fn entry_names(
     Ok(names)
 }
 
-// So many slots at least.
-fn pad(locals: &mut Seq<Option<usize>>, least: usize) -> Result<(), NoMemory>
-    ensures { IfOk result (λ u. locals.new ≡ locals.old ++ replicate (least - length locals.old) None) }
-{
-    while locals.len() < least {
-        let Ok(()) = locals.push(None) else {
-            return Err(NoMemory);
-        };
-    }
-    Ok(())
-}
-
 fn entry_node(quality: Option<Qualifier>, number: usize) -> Node
     requires { number < 2 ^ 63 }
     ensures { result ≡ spec.entry_node quality number }
@@ -189,17 +178,15 @@ impl Graph {
         let Ok(parameters) = parameters_of(alloc, method) else {
             return Err(NoMemory);
         };
-        let Ok(mut locals) = entry_names(alloc, program, parameters.as_slice()) else {
+        let Ok(names) = entry_names(alloc, program, parameters.as_slice()) else {
             return Err(NoMemory);
         };
-        let Ok(()) = pad(&mut locals, usize::from(method.max_locals)) else {
-            return Err(NoMemory);
-        };
+        let more = usize::from(method.max_locals).saturating_sub(names.len());
         let Ok(nodes) = entry_nodes(alloc, program, parameters.as_slice()) else {
             return Err(NoMemory);
         };
         Ok(Graph {
-            locals,
+            locals: Slots::new(names, more),
             stack: Seq::new(alloc),
             nodes,
         })

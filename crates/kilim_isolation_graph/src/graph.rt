@@ -4,6 +4,7 @@ ghost use Rattle.std.specs.Prelude.{◌≡◌};
 ghost use Rattle.kilim_isolation_graph.specs.Graphs as spec;
 
 use crate::node::{Node, Standing, node_at};
+use crate::slots::Slots;
 use kilim_units::Seq;
 
 /// For each local and each item of the operand stack the node that it names, or none, and the nodes by their numbers. A slot
@@ -11,7 +12,7 @@ use kilim_units::Seq;
 #[derive(Drop)]
 pub struct Graph {
     /// By slot, as many as the method has; the second slot of a long names none.
-    pub locals: Seq<Option<usize>>,
+    pub locals: Slots,
     /// The top first. A long is one item.
     pub stack: Seq<Option<usize>>,
     pub nodes: Seq<Node>,

@@ -15,7 +15,7 @@ use std::alloc::Global;
 pub fn copied(alloc: Global, graph: &Graph) -> Result<Graph, NoMemory>
     ensures { IfOk result (λ new. new ≡ graph.now) }
 {
-    let Ok(locals) = Vec::from_slice(alloc, graph.locals.as_slice()) else {
+    let Ok(locals) = graph.locals.copied(alloc) else {
         return Err(NoMemory);
     };
     let Ok(stack) = Vec::from_slice(alloc, graph.stack.as_slice()) else {
@@ -25,7 +25,7 @@ pub fn copied(alloc: Global, graph: &Graph) -> Result<Graph, NoMemory>
         return Err(NoMemory);
     };
     Ok(Graph {
-        locals: Seq::from_vec(locals),
+        locals,
         stack: Seq::from_vec(stack),
         nodes: Seq::from_vec(nodes),
     })
@@ -72,24 +72,11 @@ pub fn add(graph: &mut Graph, node: Node) -> Result<(), NoMemory>
     Ok(())
 }
 
-// One of the slots names something else.
-fn set_slot(slots: &mut Vec<Option<usize>>, at: usize, name: Option<usize>) -> Result<(), NoMemory>
-    ensures { OnOk result (slots.new.items ≡ spec.with_slot slots.old.items at name) }
-{
-    while slots.len() <= at {
-        let Ok(()) = slots.push(None) else {
-            return Err(NoMemory);
-        };
-    }
-    slots[at] = name;
-    Ok(())
-}
-
 /// A local names something else.
 pub fn set_local(graph: &mut Graph, at: usize, name: Option<usize>) -> Result<(), NoMemory>
     ensures { OnOk result (graph.new ≡ record graph.old { locals = spec.with_slot graph.old.locals at name }) }
 {
-    set_slot(&mut graph.locals.items, at, name)
+    graph.locals.set(at, name)
 }
 
 /// A number that is greater than each number of a region. Want of memory where there is none, which no graph in memory

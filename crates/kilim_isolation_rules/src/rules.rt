@@ -91,7 +91,7 @@ fn makes(alloc: Global, graph: &mut Graph, takes: usize, kind: Kind) -> Result<B
 fn loads_reference(graph: &mut Graph, slot: u16) -> Result<Broken, NoMemory>
     ensures { IfOk result (λ broken. marked broken graph.new ≡ actions.reference_loaded graph.old slot) }
 {
-    let name = slot_at(graph.locals.as_slice(), usize::from(slot));
+    let name = graph.locals.get(usize::from(slot));
     let mut broken = none_broken();
     broken.gone = names_gone(graph, name);
     let Ok(()) = push(graph, name) else {

@@ -20,15 +20,27 @@ fn standing_word(standing: Standing) -> &'static str {
 }
 
 // Appends the nodes that slots name, with commas between them.
+fn push_slot(text: &mut Text, at: usize, slot: Option<usize>) {
+    if at > 0 {
+        text.word(",");
+    }
+    match slot {
+        Some(node) => text.number(node),
+        None => text.word("-"),
+    }
+}
+
 fn push_slots(text: &mut Text, slots: &[Option<usize>]) {
     for (at, slot) in slots.iter().enumerate() {
-        if at > 0 {
-            text.word(",");
-        }
-        match slot {
-            Some(node) => text.number(*node),
-            None => text.word("-"),
-        }
+        push_slot(text, at, *slot);
+    }
+}
+
+fn push_locals(text: &mut Text, graph: &Graph) {
+    let (front, more) = graph.locals.parts();
+    push_slots(text, front);
+    for at in front.len()..front.len().saturating_add(more) {
+        push_slot(text, at, None);
     }
 }
 
@@ -67,7 +79,7 @@ fn push_node(text: &mut Text, alloc: Global, program: &Program, number: usize, n
 // A graph, and the end of its line.
 fn push_graph(text: &mut Text, alloc: Global, program: &Program, graph: &Graph) {
     text.word(" ");
-    push_slots(text, graph.locals.as_slice());
+    push_locals(text, graph);
     text.word("|");
     push_slots(text, graph.stack.as_slice());
     for (number, node) in graph.nodes.as_slice().iter().enumerate() {

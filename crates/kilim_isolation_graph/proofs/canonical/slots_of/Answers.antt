@@ -4,4 +4,4 @@ use Rattle.kilim_isolation_graph.proofs.canonical.slots_of.Goals as goal
 
 pub returns : goal.returns
 returns c =
-    named_both c.args.graph.now.locals c.in-Ok.stack.items (reverse c.args.graph.now.stack) c.push_named.new.named c.push_named-2.new.named (search rules) (search rules) (search rules)
+    named_both c.args.graph.now.locals c.in-Ok.stack.items (reverse c.args.graph.now.stack) c.push_locals.new.named c.push_named.new.named (search rules) (search rules) (search rules)
