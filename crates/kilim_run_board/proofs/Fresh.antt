@@ -1,8 +1,7 @@
 -- A mailbox at which nothing was done is as it was.
-use Rattle.std.proofs.Common.{◌≡◌, ℕ, Bool, false, ◌&&◌, not, ◌==◌, nat_lt, List, [], ◌∷◌, ◌++◌, Option, Some, None, refl, sym, ap, ◌∙◌, length}
+use Rattle.std.proofs.Common.{◌≡◌, ℕ, false, ◌&&◌, not, ◌==◌, nat_lt, List, [], ◌∷◌, ◌++◌, Some, refl, sym, ap, ◌∙◌, length}
 use Rattle.std.specs.Prelude.{if◌then◌else◌, slice_get}
 use Rattle.kilim_program.specs.declared.names.BoxName.{BoxName}
-use Rattle.kilim_program.specs.Names.{◌>>=◌}
 use Rattle.kilim_run_state.specs.declared.value.Token.{Token}
 use Rattle.kilim_run_journal.specs.declared.entry.Act.{Act}
 use Rattle.kilim_run_journal.specs.declared.entry.Act.TheVariants.{Put, Take, Empty, Start, Print, End, Wait, Bound}
@@ -41,7 +40,7 @@ module _ (box : BoxName) (b : Books) where
   empty_same t course other last (first ∷ rest) e = absurd (cc)
 
   -- an act that is done elsewhere
-  act_same : (t : ℕ) (course : Course) (a : Act) (last : Books) → is_done_at box a ≡ false → books_by b t course a ≡ Some last → Same last
+  pub act_same : (t : ℕ) (course : Course) (a : Act) (last : Books) → is_done_at box a ≡ false → books_by b t course a ≡ Some last → Same last
   act_same t course (Put other n shape) last isnt e =
       let x : Books = record { courses = with_deed b.courses t course (plain (Put other n shape)); mailboxes = with_mailbox b.mailboxes other (with_message (b.mailboxes other) shape) } in
       at_last x last (if_some (n == (b.mailboxes other).puts && not (is_full (b.mailboxes other))) x last e).1 (apart other (with_message (b.mailboxes other) shape) isnt)

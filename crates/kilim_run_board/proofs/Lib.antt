@@ -9,3 +9,5 @@ pub mod Boards
 pub mod Calls
 pub mod Closing
 pub mod Queues
+pub mod Fronts
+pub mod Threads

@@ -1,5 +1,6 @@
 pub mod Places
 pub mod NewBounds
+pub mod OneThread
 pub mod Board
 pub mod Seen
 pub mod Laws

@@ -1,4 +1,4 @@
-use Rattle.std.proofs.Common.{ℕ, ◌<◌, arith, length, subst, ◌≡◌, ◌==◌, true, false, ◌∙◌, sym, refl}
+use Rattle.std.proofs.Common.{ℕ, ◌<◌, arith, subst, ◌≡◌, true, false, ◌∙◌, sym, refl}
 use Rattle.kilim_run_board.specs.waiting.Mailboxes.{mail_of, has_to_wait}
 use Rattle.kilim_run_board.specs.Seen.{seen}
 use Rattle.kilim_run_board.proofs.Seats.{lent_emptied, seat_there}
