@@ -1,5 +1,6 @@
 -- What ended many instructions, arm by arm.
 use Rattle.std.proofs.Common.{◌≡◌, ℕ, ◌<◌, ◌-◌, List, [], ◌∷◌, refl, sym, subst}
+use Rattle.kilim_program.specs.declared.names.ClassId.{ClassId}
 use Rattle.kilim_program.specs.declared.names.MethodId.{MethodId}
 use Rattle.kilim_run_state.specs.declared.cause.EndCause.{EndCause}
 use Rattle.kilim_run_state.specs.declared.cause.EndCause.TheVariants as cause
@@ -9,13 +10,14 @@ use Rattle.kilim_run_model.specs.State.{Setting}
 use Rattle.kilim_run_model.specs.Lone.{Lone, Ends, asks_next, finish_next, opens_next}
 use Rattle.kilim_replay_laws.specs.shared.Runs.{CanGo}
 use Rattle.kilim_replay_thread.specs.Comes.{CanAsk, HasRunOn}
-use Rattle.kilim_replay_thread.specs.Live.{HasOperands, RoomIn, answered_in, behind_at, ended_at, kept_for, lone_at, operands_in}
+use Rattle.kilim_replay_thread.specs.Live.{HasOperands, RoomIn, answered_in, behind_at, calls_in, ended_at, kept_for, lone_at, operands_in}
 use Rattle.kilim_replay_thread.specs.Reach.{Ended, Stood}
 use Rattle.kilim_replay_thread.specs.Thread.{IsLast}
 use Rattle.kilim_replay_thread.specs.declared.runs.Halted.TheVariants as halted
 use Rattle.kilim_replay_thread.specs.declared.task.Live.{Live}
 use Rattle.kilim_replay_thread.specs.declared.task.World.{World}
-use Rattle.kilim_replay_thread.proofs.Reaching.{asks_at, ends_at, opens_at, returns_at, spent_at}
+use Rattle.kilim_replay_thread.specs.Raises.{raised_at, thrown_at}
+use Rattle.kilim_replay_thread.proofs.Reaching.{Led, asks_at, ends_at, opens_at, raises_at, returns_at, spent_at, throws_at}
 
 module _ (set : Setting) (t : ℕ) (w : World) (l : Live) (w' : World) (mid : Live) (can : CanGo set t (lone_at t w l)) (lt : l.done < set.limits.steps) where
   abbrev first : Lone
@@ -62,3 +64,19 @@ module _ (set : Setting) (t : ℕ) (w : World) (l : Live) (w' : World) (mid : Li
       by : (calls : List Activation) → ran.ran.calls ≡ calls → IsLast set.program (set.limits.steps - l.done) ran.steps calls ran.ran.heap (halted.Ended why) ran.frames w'.heap → Ended set t first (Ends why (ended_at w' why))
       by [] e s = absurd s
       by (top ∷ below) e s = ends_at set t w l w' mid can lt (halted.Ended why) ran top below why e s.0 s.1.0 s.1.1
+
+  pub raised_arm : (why : EndCause) → HasRunOn set.program set.limits.steps w l w' mid (halted.Raised why) → Led set t first mid.done (raised_at set.program (lone_at t w' mid) (calls_in mid.frames) mid.done mid.boxes why)
+  raised_arm why ran = by ran.ran.calls refl ran.ran.last
+    where
+      by : (calls : List Activation) → ran.ran.calls ≡ calls → IsLast set.program (set.limits.steps - l.done) ran.steps calls ran.ran.heap (halted.Raised why) ran.frames w'.heap → Led set t first mid.done (raised_at set.program (lone_at t w' mid) (calls_in mid.frames) mid.done mid.boxes why)
+      by [] e s = absurd s
+      by (top ∷ below) e s = raises_at set t w l w' mid can lt (halted.Raised why) ran top below e s.0 s.1.1 s.1.2 why s.1.0
+
+  pub thrown_arm : (object : ℕ) (class : ClassId) (why : EndCause) → HasRunOn set.program set.limits.steps w l w' mid (halted.Thrown object class why) →
+      Led set t first mid.done (thrown_at set.program (lone_at t w' mid) (calls_in mid.frames) mid.done mid.boxes object class why)
+  thrown_arm object class why ran = by ran.ran.calls refl ran.ran.last
+    where
+      by : (calls : List Activation) → ran.ran.calls ≡ calls → IsLast set.program (set.limits.steps - l.done) ran.steps calls ran.ran.heap (halted.Thrown object class why) ran.frames w'.heap →
+          Led set t first mid.done (thrown_at set.program (lone_at t w' mid) (calls_in mid.frames) mid.done mid.boxes object class why)
+      by [] e s = absurd s
+      by (top ∷ below) e s = throws_at set t w l w' mid can lt (halted.Thrown object class why) ran top below e s.0 s.1.1 s.1.2 object class why s.1.0

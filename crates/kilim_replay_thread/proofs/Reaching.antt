@@ -3,26 +3,28 @@ use Rattle.std.proofs.Common.{◌≡◌, ℕ, ◌+◌, ◌-◌, ◌<◌, ◌≤�
 use Rattle.std.specs.Prelude.{nat_le, is_some, IfOk, OnOk}
 use Rattle.std.proofs.lemmas.Bool.{lt-leb}
 use Rattle.kilim_program.specs.declared.names.MethodId.{MethodId}
+use Rattle.kilim_program.specs.declared.names.ClassId.{ClassId}
 use Rattle.kilim_program.specs.declared.value.Value.{Value}
+use Rattle.kilim_program.specs.declared.value.Value.TheVariants.{Ref}
+use Rattle.kilim_run_state.specs.declared.frames.frames.Frames.{Frames}
 use Rattle.kilim_run_state.specs.declared.cause.EndCause.{EndCause}
 use Rattle.kilim_run_state.specs.declared.cause.EndCause.TheVariants as cause
-use Rattle.kilim_run_state.specs.frames.Calls.{answered}
+use Rattle.kilim_run_state.specs.frames.Calls.{activation, answered, below_of}
 use Rattle.kilim_run_state.specs.Machine.{Activation, Objects}
 use Rattle.kilim_run_machine.specs.Moves.{Move, moves}
 use Rattle.kilim_run_machine.specs.Moves as move
 use Rattle.kilim_run_machine.specs.Natives.{native_of}
-use Rattle.kilim_run_interp.specs.Step.{IsSame as SameFrames, cause_of}
+use Rattle.kilim_run_interp.specs.Step.{IsSame as SameFrames, StandsAt}
 use Rattle.kilim_run_model.specs.State.{Setting, Alive}
-use Rattle.kilim_run_model.specs.Lone.{Lone, Next, Goes, Ends, asks_next, finish_next, frames_next, next_by, next_move, opens_next, over, thread_next}
-use Rattle.kilim_run_model.proofs.Raised.{raises_over, throws_over}
-use Rattle.kilim_run_machine.specs.Raising.{NoTables}
+use Rattle.kilim_run_model.specs.Lone.{Lone, Next, Goes, Ends, asks_next, finish_next, frames_next, next_by, next_move, opens_next, over, raises_of, thread_next, throws_by}
+use Rattle.kilim_run_machine.specs.Raising.{index_at, raised_class, thrown}
 use Rattle.kilim_run_model.specs.Course.{Quiet, Stays, Moves}
 use Rattle.kilim_fiber_spec.specs.fiber_kin.Served.{HasRoom, ResultFits}
 use Rattle.kilim_fiber_spec.proofs.fiber_kin.Fine.{opens_fit}
 use Rattle.kilim_replay_laws.specs.shared.Shared.{AskedAreThere, Serves}
 use Rattle.kilim_replay_laws.specs.shared.Runs.{CanGo}
-use Rattle.kilim_replay_thread.specs.Live.{HasFrames, RoomIn, RoomBehind, answered_in, behind_at, calls_in, ended_at, kept_for, lone_at, operands_in, operands_of}
-use Rattle.kilim_replay_thread.specs.Comes.{CanAsk, Comes, HasRunOn, IsNear, IsSame}
+use Rattle.kilim_replay_thread.specs.Live.{HasFrames, RoomIn, RoomBehind, answered_in, behind_at, calls_in, ended_at, kept_for, lone_at, operands_in, operands_of, thread_in}
+use Rattle.kilim_replay_thread.specs.Comes.{CanAsk, Comes, HasRunOn, IsNear, IsOnOrEnd, IsSame}
 use Rattle.kilim_replay_thread.specs.Reach.{Ended, IsComing, Reaches, Stood, WentOn}
 use Rattle.kilim_replay_thread.specs.Thread.{HasRun, IsSafe, thread_on}
 use Rattle.kilim_replay_thread.specs.declared.runs.Halted.{Halted}
@@ -30,6 +32,8 @@ use Rattle.kilim_replay_thread.specs.declared.task.Came.{Came}
 use Rattle.kilim_replay_thread.specs.declared.task.Came.TheVariants as came
 use Rattle.kilim_replay_thread.specs.declared.task.Live.{Live}
 use Rattle.kilim_replay_thread.specs.declared.task.World.{World}
+use Rattle.kilim_replay_thread.specs.Raises.{raised_at, thrown_at}
+use Rattle.kilim_replay_thread.proofs.Raising.{same_index, same_thrown}
 use Rattle.kilim_replay_thread.proofs.Steps.{runs_are_quiet}
 
 -- ---- moves without an action
@@ -74,6 +78,13 @@ module _ (set : Setting) (t : ℕ) where
       let left : l.done + n ≤ set.limits.steps = omega (arith, few) in
       let less : l.done + n < set.limits.steps = omega (arith, few) in
       (can (thread_on k after (kept_for t w.kept) (top ∷ below) (l.done + n) l.boxes) (runs_are_quiet set t (calls_in l.frames) (top ∷ below) w.heap k w.next after n l.done l.boxes (kept_for t w.kept) runs left)).fine.steps top below (l.done + n) l.boxes refl less
+
+  -- moves without an action led somewhere, and that is what the thread does next
+  pub record Led (first : Lone) (done : ℕ) (next : Next) : Type 0 where
+    pub mid : Lone
+    pub quiet : Quiet set t first mid
+    pub does : next_move set t mid ≡ next
+    pub few : done < set.limits.steps
 
   -- ---- many instructions
 
@@ -170,40 +181,52 @@ module _ (set : Setting) (t : ℕ) where
             },
           )
 
-    -- an instruction ends it
-    pub ends_at : (top : Activation) (below : List Activation) (c : EndCause) → r.calls ≡ top ∷ below → ran.steps < set.limits.steps - l.done → cause_of (moves set.program top below r.heap) ≡ Some c → w'.heap ≡ r.heap → Ended set t (lone_at t w l) (Ends c (ended_at w' c))
+    -- what it does next where it came to
+    next_there : (top : Activation) (below : List Activation) → r.calls ≡ top ∷ below → ran.steps < set.limits.steps - l.done → next_move set t there ≡ next_by set t there (l.done + ran.steps) l.boxes top below (moves set.program top below r.heap)
     unfolding next_move
-    ends_at top below c are few e same =
+    next_there top below are few =
         let less : l.done + ran.steps < set.limits.steps = omega (arith, few) in
-        record { mid = there; quiet = to_there; does = ends_move less ∙ ap (λ (x : Objects). Ends c (record { heap = x; next = w'.next; thread = Rattle.kilim_run_model.specs.State.Ended c; kept = None })) (sym same) }
-      where
-        none : NoTables set.program
-        none = (can there to_there).none
+        ap (λ (b : Bool). cond b (over there cause.Spent) (frames_next set t there r.calls (l.done + ran.steps) l.boxes)) (lt-leb set.limits.steps (l.done + ran.steps) less)
+        ∙ ap (λ (fs : List Activation). frames_next set t there fs (l.done + ran.steps) l.boxes) are
 
-        ends_by : (m : Move) → cause_of m ≡ Some c → next_by set t there (l.done + ran.steps) l.boxes top below m ≡ over there c
-        ends_by (move.Raises d) f = raises_over set.program none there d (l.done + ran.steps) l.boxes top below ∙ ap (over there) (some_same d c f)
-          where
-            some_same : (a b : EndCause) → Some a ≡ Some b → a ≡ b
-            some_same a b g = cc
-        ends_by (move.Throws q class d) f = throws_over set.program none there d (l.done + ran.steps + 1) l.boxes q class top below ∙ ap (over there) (some_same d c f)
-          where
-            some_same : (a b : EndCause) → Some a ≡ Some b → a ≡ b
-            some_same a b g = cc
-        ends_by (move.Ends d) f = ap (over there) (some_same d c f)
-          where
-            some_same : (a b : EndCause) → Some a ≡ Some b → a ≡ b
-            some_same a b g = cc
-        ends_by (move.Runs change fs k) f = absurd (cc)
-        ends_by (move.Makes o fs k) f = absurd (cc)
-        ends_by (move.Opens fs k) f = absurd (cc)
-        ends_by (move.Asks m args fs k) f = absurd (cc)
-        ends_by (move.Returns k) f = absurd (cc)
-        ends_by move.Stuck f = absurd (cc)
+    -- an instruction ends it
+    pub ends_at : (top : Activation) (below : List Activation) (c : EndCause) → r.calls ≡ top ∷ below → ran.steps < set.limits.steps - l.done → moves set.program top below r.heap ≡ move.Ends c → w'.heap ≡ r.heap → Ended set t (lone_at t w l) (Ends c (ended_at w' c))
+    ends_at top below c are few e same = record {
+      mid = there;
+      quiet = to_there;
+      does = next_there top below are few ∙ (ap (next_by set t there (l.done + ran.steps) l.boxes top below) e
+          ∙ ap (λ (x : Objects). Ends c (record { heap = x; next = w'.next; thread = Rattle.kilim_run_model.specs.State.Ended c; kept = None })) (sym same));
+    }
 
-        ends_move : l.done + ran.steps < set.limits.steps → next_move set t there ≡ over there c
-        ends_move less =
-            ap (λ (b : Bool). cond b (over there cause.Spent) (frames_next set t there r.calls (l.done + ran.steps) l.boxes)) (lt-leb set.limits.steps (l.done + ran.steps) less)
-            ∙ (ap (λ (fs : List Activation). frames_next set t there fs (l.done + ran.steps) l.boxes) are ∙ ends_by (moves set.program top below r.heap) e)
+    -- an instruction raises, or throws
+    module _ (top : Activation) (below : List Activation) (are : r.calls ≡ top ∷ below) (few : ran.steps < set.limits.steps - l.done) (at : StandsAt (top ∷ below) ran.frames) (same : w'.heap ≡ r.heap) where
+      few_then : mid.done < set.limits.steps
+      few_then = let a = ran.counted in omega (arith, few, a)
+
+      pub raises_at : (c : EndCause) → moves set.program top below r.heap ≡ move.Raises c → Led (lone_at t w l) mid.done (raised_at set.program (lone_at t w' mid) (calls_in mid.frames) mid.done mid.boxes c)
+      raises_at c e = record {
+        mid = there;
+        quiet = to_there;
+        does = next_there top below are few
+            ∙ (ap (next_by set t there (l.done + ran.steps) l.boxes top below) e
+            ∙ (ap (λ (ix : List ℕ). raises_of set.program there c (l.done + ran.steps + 1) l.boxes (λ k. thrown set.program k (Ref w'.next) top below) (raised_class set.program ix c)) (sym (same_index set.program top below ran.frames at))
+            ∙ ((λ i. raises_of set.program there c (l.done + ran.steps + 1) l.boxes (λ k. sym (same_thrown set.program top below ran.frames at k (Ref w'.next)) i) (raised_class set.program (index_at set.program (activation ran.frames.top)) c))
+            ∙ ((λ i. raises_of set.program (record { heap = sym same i; next = w'.next; thread = thread_in mid; kept = kept_for t (sym ran.kept i) }) c (sym ran.counted i + 1) (sym ran.boxes i) (λ k. thrown set.program k (Ref w'.next) (activation ran.frames.top) (below_of ran.frames)) (raised_class set.program (index_at set.program (activation ran.frames.top)) c))
+            ∙ ap (λ (fs : Option Frames). raised_at set.program (lone_at t w' mid) (calls_in fs) mid.done mid.boxes c) (sym ran.are)))));
+        few = few_then;
+      }
+
+      pub throws_at : (n : ℕ) (class : ClassId) (c : EndCause) → moves set.program top below r.heap ≡ move.Throws n class c → Led (lone_at t w l) mid.done (thrown_at set.program (lone_at t w' mid) (calls_in mid.frames) mid.done mid.boxes n class c)
+      throws_at n class c e = record {
+        mid = there;
+        quiet = to_there;
+        does = next_there top below are few
+            ∙ (ap (next_by set t there (l.done + ran.steps) l.boxes top below) e
+            ∙ (ap (throws_by there c (l.done + ran.steps + 1) l.boxes) (sym (same_thrown set.program top below ran.frames at class (Ref n)))
+            ∙ ((λ i. throws_by (record { heap = sym same i; next = w'.next; thread = thread_in mid; kept = kept_for t (sym ran.kept i) }) c (sym ran.counted i + 1) (sym ran.boxes i) (thrown set.program class (Ref n) (activation ran.frames.top) (below_of ran.frames)))
+            ∙ ap (λ (fs : Option Frames). thrown_at set.program (lone_at t w' mid) (calls_in fs) mid.done mid.boxes n class c) (sym ran.are))));
+        few = few_then;
+      }
 
     -- all of its instructions are done
     pub spent_at : ran.steps ≡ set.limits.steps - l.done → w'.heap ≡ r.heap → Ended set t (lone_at t w l) (Ends cause.Spent (ended_at w' cause.Spent))
@@ -239,6 +262,20 @@ module _ (set : Setting) (t : ℕ) where
     came_by n w'' l'' (came.Prints shape) s near f = (f.0, f.1, same_stood (λ x y. Rattle.kilim_run_model.specs.Lone.Prints f.0 (behind_at t x y)) w'' l'' (with_next n _ f.2 s) f.3)
     came_by n w'' l'' (came.Ends why) s near f = record { mid = lone_at t w' mid; quiet = s.quiet; does = s.does ∙ (f.0 ∙ ap (λ (x : World). Ends why (ended_at x why)) (sym f.1)) }
 
+    -- where it goes on or ends
+    pub led_by : (n : Next) (w'' : World) (l'' : Live) (c : Came) → IsOnOrEnd c → Led first mid.done n → IsNear mid.done l''.done → Comes t n w' mid w'' l'' c → Reaches set t first done w'' l'' c
+    led_by n w'' l'' came.On one s near f =
+        let a = f.counted in
+        let b = near.most in
+        let d = s.few in
+        record { quiet = Moves s.mid s.quiet (s.does ∙ f.goes); more = omega (arith, a, least); most = omega (arith, b, d) }
+    led_by n w'' l'' (came.Puts box root shape) one s near f = absurd one
+    led_by n w'' l'' (came.Takes box) one s near f = absurd one
+    led_by n w'' l'' (came.Probes box) one s near f = absurd one
+    led_by n w'' l'' (came.Starts root shape) one s near f = absurd one
+    led_by n w'' l'' (came.Prints shape) one s near f = absurd one
+    led_by n w'' l'' (came.Ends why) one s near f = record { mid = s.mid; quiet = s.quiet; does = s.does ∙ (f.0 ∙ ap (λ (x : World). Ends why (ended_at x why)) (sym f.1)) }
+
   -- ---- from an earlier place on
 
   quiet_from : (a b : Lone) → Quiet set t a b → (c : Lone) → Quiet set t b c → Quiet set t a c
@@ -263,6 +300,10 @@ none_there (Some x) e = absurd (cc)
 pub over_ok : {A E : Type 0} (P Q : A → Type 0) (R : Type 0) (r : Result A E) → IfOk r P → OnOk r R → ((a : A) → P a → R → Q a) → IfOk r Q
 over_ok P Q R (Ok a) p x f = f a p x
 over_ok P Q R (Err e) p x f = tt
+
+pub both_ok : {A E : Type 0} (P B Q : A → Type 0) (R : Type 0) (r : Result A E) → IfOk r P → IfOk r B → OnOk r R → ((a : A) → P a → B a → R → Q a) → IfOk r Q
+both_ok P B Q R (Ok a) p b x f = f a p b x
+both_ok P B Q R (Err e) p b x f = tt
 
 pub fewer : (steps old new : ℕ) → old < new → new ≤ steps → steps - new < steps - old
 fewer steps old new lt le = omega arith

@@ -213,6 +213,8 @@ module _ (p : Program) (limit left : ℕ) (first : List Activation) (h : Objects
     last_of halted.NewBox new s = (omega (arith, few, some), s)
     last_of (halted.Asks id) new s = (omega (arith, few, some), s)
     last_of halted.Returned new s = (omega (arith, few, some), s)
+    last_of (halted.Raised c) new s = (omega (arith, few, some), s)
+    last_of (halted.Thrown object class c) new s = (omega (arith, few, some), s)
     last_of (halted.Ended c) new s = (omega (arith, few, some), s)
 
     pub halts : (z : Halted) (new : Frames) (after : ℕ) → after ≡ next → Settles (move_by p (effect_of p (activation f.top) x) (activation f.top) (below_of mid)) (Some z) (activation f.top ∷ below_of mid) new x k → HasRun p limit first h start (limit - left) z new k after

@@ -59,6 +59,12 @@ Comes t next w l w' l' (came.Starts root shape) = (next ≡ Starts root shape (b
 Comes t next w l w' l' (came.Prints shape) = (token : Token) × (shape ≡ token ∷ []) × (next ≡ Prints token (behind_at t w l)) × IsSame w l w' l'
 Comes t next w l w' l' (came.Ends why) = (next ≡ Ends why (ended_at w why)) × (w' ≡ w)
 
+-- it goes on, or ends
+abbrev pub IsOnOrEnd : Came → Type 0
+IsOnOrEnd came.On = Unit {0}
+IsOnOrEnd (came.Ends why) = Unit {0}
+IsOnOrEnd c = ⊥
+
 -- It stands at an instruction, and there is room for the result that it is to get. The task object is there.
 abbrev pub HasRoomFor : Program → World → Live → Came → Type 0
 HasRoomFor p w l came.On = Unit {0}

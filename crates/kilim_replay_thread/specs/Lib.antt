@@ -4,3 +4,4 @@ pub mod Operands
 pub mod Comes
 pub mod Begins
 pub mod Reach
+pub mod Raises

@@ -15,7 +15,7 @@ use Rattle.kilim_run_state.specs.frames.Calls.{activation, below_of, calls_of}
 use Rattle.kilim_run_rows.specs.declared.outcome.Moved.{Moved}
 use Rattle.kilim_run_rows.specs.declared.outcome.Moved.TheVariants as moved
 use Rattle.kilim_run_rows.specs.Outcome.{Shows}
-use Rattle.kilim_run_interp.specs.Step.{IsWent, Steps, cause_of}
+use Rattle.kilim_run_interp.specs.Step.{IsWent, Steps}
 use Rattle.kilim_run_interp.specs.Run.{IsFine}
 use Rattle.kilim_run_interp.specs.declared.machine.NativeCall.{NativeCall}
 use Rattle.kilim_run_interp.specs.declared.machine.Stepped.TheVariants as stepped
@@ -81,7 +81,9 @@ Settles m (Some halted.Spent) calls new h k = ⊥
 Settles m (Some halted.NewBox) calls new h k = Steps m stepped.NewBox calls new h k
 Settles m (Some (halted.Asks id)) calls new h k = (new.operands ≤ length new.top.stack.values) × Steps m (stepped.AtNative (asked_of id new)) calls new h k
 Settles m (Some halted.Returned) calls new h k = Steps m stepped.Returned calls new h k
-Settles m (Some (halted.Ended cause)) calls new h k = (cause_of m ≡ Some cause) × (k ≡ h)
+Settles m (Some (halted.Raised cause)) calls new h k = Steps m (stepped.Raised cause) calls new h k
+Settles m (Some (halted.Thrown object class cause)) calls new h k = Steps m (stepped.Thrown object class cause) calls new h k
+Settles m (Some (halted.Ended cause)) calls new h k = Steps m (stepped.Ended cause) calls new h k
 
 -- ---- steps one behind the other
 

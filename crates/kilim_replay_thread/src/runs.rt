@@ -13,7 +13,7 @@ ghost use Rattle.kilim_run_interp.specs.Step.{AreRoomy, CanSettle};
 ghost use Rattle.kilim_replay_thread.specs.Thread.{Does, HasRun, IsSafe, RunsAreQuiet, Settles, IsShown, is_asked, is_plain};
 
 use kilim_program::lookups::{code_rises, fetch, method_at};
-use kilim_program::{Method, MethodId, Program};
+use kilim_program::{ClassId, Method, MethodId, Program};
 use kilim_run_interp::instruction::act;
 use kilim_run_interp::{Stepped, await_answer, settle};
 use kilim_run_rows::Moved;
@@ -33,6 +33,11 @@ pub enum Halted {
     Asks(MethodId),
     /// The last frame returns.
     Returned,
+    /// Something is wrong with a value. Nothing was changed but the operands of the top frame.
+    Raised(EndCause),
+    /// An object of that class is thrown. Where nothing catches it, the task ends with the cause. Nothing was changed but the operands of
+    /// the top frame.
+    Thrown(u32, ClassId, EndCause),
     /// The task ends.
     Ended(EndCause),
 }
@@ -122,8 +127,8 @@ fn settled(
         Stepped::Went => Ok(None),
         Stepped::NewBox => Ok(Some(Halted::NewBox)),
         Stepped::Returned => Ok(Some(Halted::Returned)),
-        Stepped::Raised(cause) => Ok(Some(Halted::Ended(cause))),
-        Stepped::Thrown(_, _, cause) => Ok(Some(Halted::Ended(cause))),
+        Stepped::Raised(cause) => Ok(Some(Halted::Raised(cause))),
+        Stepped::Thrown(object, class, cause) => Ok(Some(Halted::Thrown(object, class, cause))),
         Stepped::Ended(cause) => Ok(Some(Halted::Ended(cause))),
         Stepped::AtNative(_) => unreachable!(),
     }

@@ -1,12 +1,13 @@
-use Rattle.std.proofs.Common.{arith, refl, subst}
+use Rattle.std.proofs.Common.{arith, refl, subst, sym}
 use Rattle.kilim_run_machine.specs.Natives.{native_of}
 use Rattle.kilim_run_model.specs.Lone.{asks_next, finish_next, opens_next}
-use Rattle.kilim_replay_thread.specs.Comes.{Comes, HasRunOn, IsNear}
-use Rattle.kilim_replay_thread.specs.Live.{answered_in, behind_at, kept_for, lone_at, operands_in}
+use Rattle.kilim_replay_thread.specs.Comes.{Comes, HasRunOn, IsNear, IsOnOrEnd}
+use Rattle.kilim_replay_thread.specs.Live.{HasFrames, answered_in, behind_at, calls_in, kept_for, lone_at, operands_in}
+use Rattle.kilim_replay_thread.specs.Raises.{raised_at, thrown_at}
 use Rattle.kilim_replay_thread.specs.Reach.{Reaches, setting_of}
 use Rattle.kilim_replay_thread.specs.declared.runs.Halted.{Halted}
-use Rattle.kilim_replay_thread.proofs.Arms.{asked_arm, ended_arm, opened_arm, returned_arm, spent_arm}
-use Rattle.kilim_replay_thread.proofs.Reaching.{came_by, done_now, none_there, over_ok, safe_on, spent_now}
+use Rattle.kilim_replay_thread.proofs.Arms.{asked_arm, ended_arm, opened_arm, raised_arm, returned_arm, spent_arm, thrown_arm}
+use Rattle.kilim_replay_thread.proofs.Reaching.{both_ok, came_by, done_now, led_by, none_there, over_ok, safe_on, spent_now}
 use Rattle.kilim_replay_thread.proofs.advance.advance.Goals as goal
 
 pub returns-then-live-limits-clause-reaches : goal.returns-then-live-limits-clause-reaches
@@ -79,3 +80,35 @@ pub returns-in-Ended-clause-reaches : goal.returns-in-Ended-clause-reaches
 returns-in-Ended-clause-reaches c =
     ended_arm (setting_of c.args.program.now c.args.main c.args.limits.now) c.args.task c.args.world.now c.args.live.now c.run_on.new.world c.run_on.new.live c.requires.can c.if-live-limits.false c.in-Ended.cause
     (subst (λ (h : Halted). HasRunOn c.args.program.now c.args.limits.now.steps c.args.world.now c.args.live.now c.run_on.new.world c.run_on.new.live h) c.in-Ended.is c.in-Ok.ensures.run)
+
+pub raise_on-requires-clause-frames : goal.raise_on-requires-clause-frames
+raise_on-requires-clause-frames c = subst HasFrames (sym c.in-Ok.ensures.run.are) tt
+
+pub throw_on-requires-clause-frames : goal.throw_on-requires-clause-frames
+throw_on-requires-clause-frames c = subst HasFrames (sym c.in-Ok.ensures.run.are) tt
+
+pub returns-in-Raised-clause-reaches : goal.returns-in-Raised-clause-reaches
+returns-in-Raised-clause-reaches c =
+    let set = setting_of c.args.program.now c.args.main c.args.limits.now in
+    let w' = c.run_on.new.world in
+    let mid = c.run_on.new.live in
+    let next = raised_at c.args.program.now (lone_at c.args.task w' mid) (calls_in mid.frames) mid.done mid.boxes c.in-Raised.cause in
+    both_ok (λ came. Comes c.args.task next w' mid c.raise_on.new.world c.raise_on.new.live came) IsOnOrEnd (λ came. Reaches set c.args.task (lone_at c.args.task c.args.world.now c.args.live.now) c.args.live.now.done c.raise_on.new.world c.raise_on.new.live came)
+    (IsNear mid.done c.raise_on.new.live.done) c.raise_on.result c.raise_on.ensures.comes c.raise_on.ensures.ends c.raise_on.ensures.counted
+    (λ came comes one near.
+    led_by set c.args.task (lone_at c.args.task c.args.world.now c.args.live.now) c.args.live.now.done w' mid (omega (arith, c.in-Ok.ensures.run.counted)) next c.raise_on.new.world c.raise_on.new.live came one
+    (raised_arm set c.args.task c.args.world.now c.args.live.now w' mid c.requires.can c.if-live-limits.false c.in-Raised.cause
+    (subst (λ (h : Halted). HasRunOn c.args.program.now c.args.limits.now.steps c.args.world.now c.args.live.now w' mid h) c.in-Raised.is c.in-Ok.ensures.run)) near comes)
+
+pub returns-in-Thrown-clause-reaches : goal.returns-in-Thrown-clause-reaches
+returns-in-Thrown-clause-reaches c =
+    let set = setting_of c.args.program.now c.args.main c.args.limits.now in
+    let w' = c.run_on.new.world in
+    let mid = c.run_on.new.live in
+    let next = thrown_at c.args.program.now (lone_at c.args.task w' mid) (calls_in mid.frames) mid.done mid.boxes c.in-Thrown.object c.in-Thrown.class c.in-Thrown.cause in
+    both_ok (λ came. Comes c.args.task next w' mid w' c.throw_on.new.live came) IsOnOrEnd (λ came. Reaches set c.args.task (lone_at c.args.task c.args.world.now c.args.live.now) c.args.live.now.done w' c.throw_on.new.live came)
+    (IsNear mid.done c.throw_on.new.live.done) c.throw_on.result c.throw_on.ensures.comes c.throw_on.ensures.ends c.throw_on.ensures.counted
+    (λ came comes one near.
+    led_by set c.args.task (lone_at c.args.task c.args.world.now c.args.live.now) c.args.live.now.done w' mid (omega (arith, c.in-Ok.ensures.run.counted)) next w' c.throw_on.new.live came one
+    (thrown_arm set c.args.task c.args.world.now c.args.live.now w' mid c.requires.can c.if-live-limits.false c.in-Thrown.object c.in-Thrown.class c.in-Thrown.cause
+    (subst (λ (h : Halted). HasRunOn c.args.program.now c.args.limits.now.steps c.args.world.now c.args.live.now w' mid h) c.in-Thrown.is c.in-Ok.ensures.run)) near comes)

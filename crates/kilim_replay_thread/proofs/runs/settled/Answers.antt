@@ -1,6 +1,4 @@
-use Rattle.std.proofs.Common.{ap}
 use Rattle.kilim_run_state.specs.frames.Calls.{answered, below_of}
-use Rattle.kilim_run_interp.specs.Step.{cause_of}
 use Rattle.kilim_replay_thread.proofs.Steps.{never_asks}
 use Rattle.kilim_replay_thread.proofs.runs.settled.Goals as goal
 
@@ -8,28 +6,13 @@ pub returns-in-Went : goal.returns-in-Went
 returns-in-Went c = record { roomy = c.in-Ok.ensures.roomy; settles = λ e before h k shows same. rw c.in-Went.is at (c.in-Ok.ensures.steps e before h k shows same) }
 
 pub returns-in-Raised : goal.returns-in-Raised
-returns-in-Raised c = record {
-  roomy = c.in-Ok.ensures.roomy;
-  settles = λ e before h k shows same.
-      let ends = rw c.in-Raised.is at (c.in-Ok.ensures.steps e before h k shows same) in
-      (ap cause_of ends.0, ends.2);
-}
+returns-in-Raised c = record { roomy = c.in-Ok.ensures.roomy; settles = λ e before h k shows same. rw c.in-Raised.is at (c.in-Ok.ensures.steps e before h k shows same) }
 
 pub returns-in-Thrown : goal.returns-in-Thrown
-returns-in-Thrown c = record {
-  roomy = c.in-Ok.ensures.roomy;
-  settles = λ e before h k shows same.
-      let ends = rw c.in-Thrown.is at (c.in-Ok.ensures.steps e before h k shows same) in
-      (ap cause_of ends.0, ends.2);
-}
+returns-in-Thrown c = record { roomy = c.in-Ok.ensures.roomy; settles = λ e before h k shows same. rw c.in-Thrown.is at (c.in-Ok.ensures.steps e before h k shows same) }
 
 pub returns-in-Ended : goal.returns-in-Ended
-returns-in-Ended c = record {
-  roomy = c.in-Ok.ensures.roomy;
-  settles = λ e before h k shows same.
-      let ends = rw c.in-Ended.is at (c.in-Ok.ensures.steps e before h k shows same) in
-      (ap cause_of ends.0, ends.1);
-}
+returns-in-Ended c = record { roomy = c.in-Ok.ensures.roomy; settles = λ e before h k shows same. rw c.in-Ended.is at (c.in-Ok.ensures.steps e before h k shows same) }
 
 pub unreachable-requires : goal.unreachable-requires
 unreachable-requires c =
