@@ -1,5 +1,5 @@
 pub mod Steps
 pub mod Asking
-pub mod Raising
+pub mod Standing
 pub mod Reaching
 pub mod Arms

@@ -33,7 +33,7 @@ use Rattle.kilim_replay_thread.specs.declared.task.Came.TheVariants as came
 use Rattle.kilim_replay_thread.specs.declared.task.Live.{Live}
 use Rattle.kilim_replay_thread.specs.declared.task.World.{World}
 use Rattle.kilim_replay_thread.specs.Raises.{raised_at, thrown_at}
-use Rattle.kilim_replay_thread.proofs.Raising.{same_index, same_thrown}
+use Rattle.kilim_replay_thread.proofs.Standing.{same_index, same_thrown}
 use Rattle.kilim_replay_thread.proofs.Steps.{runs_are_quiet}
 
 -- ---- moves without an action

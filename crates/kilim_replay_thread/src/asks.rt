@@ -12,9 +12,9 @@ ghost use Rattle.kilim_replay_thread.specs.Comes.{CanAsk, CanShow, Comes, HasRoo
 ghost use Rattle.kilim_replay_thread.specs.Live.{HasFrames, HasOperands, RoomIn, RoomyIn, behind_at, operands_in};
 ghost use Rattle.kilim_replay_thread.specs.Operands.{AreCopies};
 
-use crate::kept::tables;
 use crate::operands::{Operands, copy_operands};
 use crate::pass::{go_on, go_on_with};
+use crate::raising::raise_called;
 use crate::task::{Came, Live, World};
 use kilim_fiber_steps::records::natives::{Native, native_of};
 use kilim_program::{BoxName, MethodId, Program, Value};
@@ -59,30 +59,30 @@ fn arg_at(args: &Seq<i32>, index: &i32) -> Option<i32>
 
 // `arg`
 fn arg(
+    alloc: Global,
     program: &Program,
     limits: &Limits,
     index: &i32,
     task: u32,
-    world: &World,
+    world: &mut World,
     live: &mut Live,
-) -> Came
+) -> Result<Came, NoMemory>
+    requires frames { HasFrames live.old.frames }
     requires roomy { RoomyIn program.now live.old.frames }
     requires room { RoomIn program.now live.old.frames }
     requires counts { live.old.done + 1 < 2 ^ 64 }
-    ensures comes { Comes task (arg_next program.now (behind_at task world.now live.old) (arg_at limits.now.args index.now)) world.now live.old world.now live.new result }
-    ensures roomy { RoomyIn program.now live.new.frames }
-    ensures counted { IsNear live.old.done live.new.done }
-    ensures room { HasRoomFor program.now world.now live.new result }
+    ensures comes { IfOk result (λ came. Comes task (arg_next program.now (behind_at task world.old live.old) (arg_at limits.now.args index.now)) world.old live.old world.new live.new came) }
+    ensures roomy { OnOk result (RoomyIn program.now live.new.frames) }
+    ensures counted { OnOk result (IsNear live.old.done live.new.done) }
+    ensures room { IfOk result (λ came. HasRoomFor program.now world.new live.new came) }
+    ensures kept { OnOk result (world.new.kept ≡ world.old.kept) }
 {
-    let _ = task;
-    let _ = world;
-    tables(program);
     match arg_at(&limits.args, index) {
         Some(number) => {
             go_on_with(program, live, Value::Int(number));
-            Came::On
+            Ok(Came::On)
         }
-        None => Came::Ends(EndCause::Index),
+        None => raise_called(alloc, program, EndCause::Index, task, world, live),
     }
 }
 
@@ -171,17 +171,21 @@ fn put(
     mailbox: BoxName,
     message: &Value,
     task: u32,
-    world: &World,
-    live: &Live,
+    world: &mut World,
+    live: &mut Live,
 ) -> Result<Came, NoMemory>
-    requires frames { HasFrames live.now.frames }
-    requires shown { IsShownValue program.now world.now.heap message.now }
-    ensures comes { IfOk result (λ came. Comes task (message_next program.now (behind_at task world.now live.now) mailbox message.now) world.now live.now world.now live.now came) }
-    ensures room { IfOk result (λ came. HasRoomFor program.now world.now live.now came) }
+    requires frames { HasFrames live.old.frames }
+    requires roomy { RoomyIn program.now live.old.frames }
+    requires counts { live.old.done + 1 < 2 ^ 64 }
+    requires shown { IsShownValue program.now world.old.heap message.now }
+    ensures comes { IfOk result (λ came. Comes task (message_next program.now (behind_at task world.old live.old) mailbox message.now) world.old live.old world.new live.new came) }
+    ensures roomy { OnOk result (RoomyIn program.now live.new.frames) }
+    ensures counted { OnOk result (IsNear live.old.done live.new.done) }
+    ensures room { IfOk result (λ came. HasRoomFor program.now world.new live.new came) }
+    ensures kept { OnOk result (world.new.kept ≡ world.old.kept) }
 {
-    tables(program);
     match message {
-        Value::Null => Ok(Came::Ends(EndCause::Null)),
+        Value::Null => raise_called(alloc, program, EndCause::Null, task, world, live),
         Value::Ref(root) => put_tree(alloc, program, mailbox, *root, task, world, live),
         // unmet: `put` is declared of messages
         _ => Err(unmet()),
@@ -248,17 +252,18 @@ fn ask_of_one(
     native: Native,
     value: &Value,
     task: u32,
-    world: &World,
+    world: &mut World,
     live: &mut Live,
 ) -> Result<Came, NoMemory>
     requires frames { HasFrames live.old.frames }
     requires roomy { RoomyIn program.now live.old.frames }
     requires counts { live.old.done + 1 < 2 ^ 64 }
-    requires can { CanAsk program.now (Some (meaning native)) (value.now ∷ []) world.now live.old }
-    ensures comes { (set : Setting) → set.program ≡ program.now → set.limits ≡ limits.now → IfOk result (λ came. Comes task (native_next set (behind_at task world.now live.old) (meaning native) (value.now ∷ [])) world.now live.old world.now live.new came) }
+    requires can { CanAsk program.now (Some (meaning native)) (value.now ∷ []) world.old live.old }
+    ensures comes { (set : Setting) → set.program ≡ program.now → set.limits ≡ limits.now → IfOk result (λ came. Comes task (native_next set (behind_at task world.old live.old) (meaning native) (value.now ∷ [])) world.old live.old world.new live.new came) }
     ensures roomy { OnOk result (RoomyIn program.now live.new.frames) }
     ensures counted { OnOk result (IsNear live.old.done live.new.done) }
-    ensures room { IfOk result (λ came. HasRoomFor program.now world.now live.new came) }
+    ensures room { IfOk result (λ came. HasRoomFor program.now world.new live.new came) }
+    ensures kept { OnOk result (world.new.kept ≡ world.old.kept) }
 {
     match (native, value) {
         (Native::Execute, Value::Ref(_)) => {
@@ -269,7 +274,9 @@ fn ask_of_one(
         (Native::Get, Value::Box(mailbox)) => Ok(Came::Takes(*mailbox)),
         (Native::Getnb, Value::Box(mailbox)) => Ok(Came::Probes(*mailbox)),
         (Native::Print, value) => print(alloc, program, value, task, world, live),
-        (Native::Arg, Value::Int(index)) => Ok(arg(program, limits, index, task, world, live)),
+        (Native::Arg, Value::Int(index)) => {
+            arg(alloc, program, limits, index, task, world, live)
+        }
         // unmet: verified code passes values of the declared types, and no null as the receiver
         _ => Err(unmet()),
     }
@@ -283,13 +290,18 @@ fn ask_of_two(
     first: &Value,
     second: &Value,
     task: u32,
-    world: &World,
-    live: &Live,
+    world: &mut World,
+    live: &mut Live,
 ) -> Result<Came, NoMemory>
-    requires frames { HasFrames live.now.frames }
-    requires can { CanAsk program.now (Some (meaning native)) (first.now ∷ second.now ∷ []) world.now live.now }
-    ensures comes { (set : Setting) → set.program ≡ program.now → IfOk result (λ came. Comes task (native_next set (behind_at task world.now live.now) (meaning native) (first.now ∷ second.now ∷ [])) world.now live.now world.now live.now came) }
-    ensures room { IfOk result (λ came. HasRoomFor program.now world.now live.now came) }
+    requires frames { HasFrames live.old.frames }
+    requires roomy { RoomyIn program.now live.old.frames }
+    requires counts { live.old.done + 1 < 2 ^ 64 }
+    requires can { CanAsk program.now (Some (meaning native)) (first.now ∷ second.now ∷ []) world.old live.old }
+    ensures comes { (set : Setting) → set.program ≡ program.now → IfOk result (λ came. Comes task (native_next set (behind_at task world.old live.old) (meaning native) (first.now ∷ second.now ∷ [])) world.old live.old world.new live.new came) }
+    ensures roomy { OnOk result (RoomyIn program.now live.new.frames) }
+    ensures counted { OnOk result (IsNear live.old.done live.new.done) }
+    ensures room { IfOk result (λ came. HasRoomFor program.now world.new live.new came) }
+    ensures kept { OnOk result (world.new.kept ≡ world.old.kept) }
 {
     match (native, first) {
         (Native::Put, Value::Box(mailbox)) => {
@@ -308,18 +320,19 @@ fn ask_with(
     native: Native,
     operands: &Operands,
     task: u32,
-    world: &World,
+    world: &mut World,
     live: &mut Live,
 ) -> Result<Came, NoMemory>
     requires frames { HasFrames live.old.frames }
     requires operands { AreCopies (operands_in live.old.frames) operands.now }
     requires roomy { RoomyIn program.now live.old.frames }
     requires counts { live.old.done + 1 < 2 ^ 64 }
-    requires can { CanAsk program.now (Some (meaning native)) (operands_in live.old.frames) world.now live.old }
-    ensures comes { (set : Setting) → set.program ≡ program.now → set.limits ≡ limits.now → IfOk result (λ came. Comes task (native_next set (behind_at task world.now live.old) (meaning native) (operands_in live.old.frames)) world.now live.old world.now live.new came) }
+    requires can { CanAsk program.now (Some (meaning native)) (operands_in live.old.frames) world.old live.old }
+    ensures comes { (set : Setting) → set.program ≡ program.now → set.limits ≡ limits.now → IfOk result (λ came. Comes task (native_next set (behind_at task world.old live.old) (meaning native) (operands_in live.old.frames)) world.old live.old world.new live.new came) }
     ensures roomy { OnOk result (RoomyIn program.now live.new.frames) }
     ensures counted { OnOk result (IsNear live.old.done live.new.done) }
-    ensures room { IfOk result (λ came. HasRoomFor program.now world.now live.new came) }
+    ensures room { IfOk result (λ came. HasRoomFor program.now world.new live.new came) }
+    ensures kept { OnOk result (world.new.kept ≡ world.old.kept) }
 {
     match operands {
         Operands::None => ask_of_none(program, limits, native, task, world, live),
@@ -341,18 +354,19 @@ pub fn ask(
     limits: &Limits,
     method: MethodId,
     task: u32,
-    world: &World,
+    world: &mut World,
     live: &mut Live,
 ) -> Result<Came, NoMemory>
     requires frames { HasFrames live.old.frames }
     requires operands { HasOperands live.old.frames }
     requires roomy { RoomyIn program.now live.old.frames }
     requires counts { live.old.done + 1 < 2 ^ 64 }
-    requires can { CanAsk program.now (native_of program.now method) (operands_in live.old.frames) world.now live.old }
-    ensures comes { (set : Setting) → set.program ≡ program.now → set.limits ≡ limits.now → IfOk result (λ came. Comes task (asks_next set (behind_at task world.now live.old) (operands_in live.old.frames) (native_of program.now method)) world.now live.old world.now live.new came) }
+    requires can { CanAsk program.now (native_of program.now method) (operands_in live.old.frames) world.old live.old }
+    ensures comes { (set : Setting) → set.program ≡ program.now → set.limits ≡ limits.now → IfOk result (λ came. Comes task (asks_next set (behind_at task world.old live.old) (operands_in live.old.frames) (native_of program.now method)) world.old live.old world.new live.new came) }
     ensures roomy { OnOk result (RoomyIn program.now live.new.frames) }
     ensures counted { OnOk result (IsNear live.old.done live.new.done) }
-    ensures room { IfOk result (λ came. HasRoomFor program.now world.now live.new came) }
+    ensures room { IfOk result (λ came. HasRoomFor program.now world.new live.new came) }
+    ensures kept { OnOk result (world.new.kept ≡ world.old.kept) }
 {
     let Some(native) = native_of(program, method) else {
         // unmet: such a method is one of those that are handed out

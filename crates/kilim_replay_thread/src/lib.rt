@@ -4,9 +4,9 @@
 mod advance;
 mod asks;
 mod begin;
-mod kept;
 mod operands;
 mod pass;
+mod raising;
 mod runs;
 mod task;
 

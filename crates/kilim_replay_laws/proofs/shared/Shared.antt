@@ -334,7 +334,6 @@ module _ (set : Setting) (typing : Typing) (live : Wanted) (is : IsVerified set 
         let fine = thread_fine t th at in
         record {
           fine = fine;
-          none = is.keeps.handlers;
           heap = record { suits = suits p is.keeps of s.heap fits.heap known fine.shown; there = all_there s.heap (closed p is.keeps of s.heap fits.heap known) };
           asked = frames_asked th (fits.threads t th at);
         }

@@ -7,7 +7,6 @@ use Rattle.kilim_program.specs.declared.names.BoxName.{BoxName}
 use Rattle.kilim_program.specs.declared.ty.Ty.{Ty}
 use Rattle.kilim_run_state.specs.declared.value.Object.{Object}
 use Rattle.kilim_run_state.specs.Machine.{Objects, Activation}
-use Rattle.kilim_run_machine.specs.Raising.{NoTables}
 use Rattle.kilim_run_machine.specs.Moves.{Move, moves}
 use Rattle.kilim_run_machine.specs.Moves as move
 use Rattle.kilim_type_sound.specs.Fits.{Classes, Typing, Wanted, Nothing, FramesFit, HeapFits, AreThere, is_of}
@@ -67,10 +66,9 @@ abbrev pub AskedAreThere : Objects → Move → Type 0
 AskedAreThere h (move.Asks m args frames k) = AreThere h args
 AskedAreThere h m = Unit {0}
 
--- A thread that isn't stuck at its next instruction, on a heap whose trees can be shown; nothing that is raised is caught.
+-- A thread that isn't stuck at its next instruction, on a heap whose trees can be shown.
 pub record Serves (set : Setting) (l : Lone) : Type 0 where
   pub fine : IsFineThread set l
-  pub none : NoTables set.program
   pub heap : HeapServes set.program l.heap
   pub asked : (top : Activation) (below : List Activation) (done boxes : ℕ) → l.thread ≡ Alive (top ∷ below) done boxes → AskedAreThere l.heap (moves set.program top below l.heap)
 

@@ -59,9 +59,9 @@ returns-in-Asks-clause-reaches c =
     let at =
     asked_arm set c.args.task c.args.world.now c.args.live.now w' mid c.requires.can c.if-live-limits.false c.in-Asks.method
     (subst (λ (h : Halted). HasRunOn c.args.program.now c.args.limits.now.steps c.args.world.now c.args.live.now w' mid h) c.in-Asks.is c.in-Ok.ensures.run) in
-    over_ok (λ came. Comes c.args.task next w' mid w' c.ask.new.live came) (λ came. Reaches set c.args.task (lone_at c.args.task c.args.world.now c.args.live.now) c.args.live.now.done w' c.ask.new.live came)
+    over_ok (λ came. Comes c.args.task next w' mid c.ask.new.world c.ask.new.live came) (λ came. Reaches set c.args.task (lone_at c.args.task c.args.world.now c.args.live.now) c.args.live.now.done c.ask.new.world c.ask.new.live came)
     (IsNear mid.done c.ask.new.live.done) c.ask.result (c.ask.ensures.comes set refl refl) c.ask.ensures.counted
-    (λ came comes near. came_by set c.args.task (lone_at c.args.task c.args.world.now c.args.live.now) c.args.live.now.done w' mid (omega (arith, c.in-Ok.ensures.run.counted)) next w' c.ask.new.live came at.stood near comes)
+    (λ came comes near. came_by set c.args.task (lone_at c.args.task c.args.world.now c.args.live.now) c.args.live.now.done w' mid (omega (arith, c.in-Ok.ensures.run.counted)) next c.ask.new.world c.ask.new.live came at.stood near comes)
 
 pub returns-in-Returned-clause-reaches : goal.returns-in-Returned-clause-reaches
 returns-in-Returned-clause-reaches c =

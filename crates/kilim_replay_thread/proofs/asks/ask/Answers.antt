@@ -15,6 +15,6 @@ ask_with-asked-requires-clause-can c = known_by c.args.program.now c.args.world.
 
 pub returns-clause-comes : goal.returns-clause-comes
 returns-clause-comes c = λ set is-program is-limits.
-    come_by c.args.task c.args.world.now c.args.live.now c.args.world.now c.ask_with-asked.new.live c.ask_with-asked.result _ _
+    come_by c.args.task c.args.world.now c.args.live.now c.ask_with-asked.new.world c.ask_with-asked.new.live c.ask_with-asked.result _ _
     (asked_same set (behind_at c.args.task c.args.world.now c.args.live.now) (operands_in c.args.live.now.frames) (native_of c.args.program.now c.args.method) (meaning c.in-Some.native) c.in-Some.ensures)
     (c.ask_with-asked.ensures.comes set is-program is-limits)

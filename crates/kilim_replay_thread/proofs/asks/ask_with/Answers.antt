@@ -20,7 +20,7 @@ ask_of_one-requires-clause-can c =
 
 pub returns-in-One-clause-comes : goal.returns-in-One-clause-comes
 returns-in-One-clause-comes c = λ set is-program is-limits.
-    come_by c.args.task c.args.world.now c.args.live.now c.args.world.now c.ask_of_one.new.live c.ask_of_one.result _ _
+    come_by c.args.task c.args.world.now c.args.live.now c.ask_of_one.new.world c.ask_of_one.new.live c.ask_of_one.result _ _
     (args_same set (behind_at c.args.task c.args.world.now c.args.live.now) (meaning c.args.native) (operands_in c.args.live.now.frames) (c.in-One.value ∷ []) (told_one (operands_in c.args.live.now.frames) c.args.operands.now c.in-One.value c.in-One.is c.requires.operands))
     (c.ask_of_one.ensures.comes set is-program is-limits)
 
@@ -30,6 +30,6 @@ ask_of_two-requires-clause-can c =
 
 pub returns-in-Two-clause-comes : goal.returns-in-Two-clause-comes
 returns-in-Two-clause-comes c = λ set is-program is-limits.
-    come_by c.args.task c.args.world.now c.args.live.now c.args.world.now c.args.live.now c.ask_of_two.result _ _
+    come_by c.args.task c.args.world.now c.args.live.now c.ask_of_two.new.world c.ask_of_two.new.live c.ask_of_two.result _ _
     (args_same set (behind_at c.args.task c.args.world.now c.args.live.now) (meaning c.args.native) (operands_in c.args.live.now.frames) (c.in-Two.first ∷ c.in-Two.second ∷ []) (told_two (operands_in c.args.live.now.frames) c.args.operands.now c.in-Two.first c.in-Two.second c.in-Two.is c.requires.operands))
     (c.ask_of_two.ensures.comes set is-program)

@@ -1,7 +1,5 @@
-use Rattle.std.proofs.Common.{ap, refl, sym, subst, ◌∙◌}
+use Rattle.std.proofs.Common.{ap, sym, subst}
 use Rattle.kilim_run_model.specs.Lone.{message_next}
-use Rattle.kilim_run_state.specs.declared.cause.EndCause.TheVariants as cause
-use Rattle.kilim_run_model.proofs.Raised.{raised_over}
 use Rattle.kilim_replay_thread.specs.Comes.{IsShownValue}
 use Rattle.kilim_replay_thread.specs.Live.{behind_at}
 use Rattle.kilim_replay_thread.proofs.Asking.{come_by}
@@ -11,11 +9,9 @@ pub put_tree-requires-clause-shown : goal.put_tree-requires-clause-shown
 put_tree-requires-clause-shown c = subst (IsShownValue c.args.program.now c.args.world.now.heap) c.in-Ref.is c.requires.shown
 
 pub returns-in-Null-clause-comes : goal.returns-in-Null-clause-comes
-returns-in-Null-clause-comes c = (
-  ap (message_next c.args.program.now (behind_at c.args.task c.args.world.now c.args.live.now) c.args.mailbox) c.in-Null.is
-      ∙ raised_over c.args.program.now c.tables.ensures (behind_at c.args.task c.args.world.now c.args.live.now) cause.Null,
-  refl,
-)
+returns-in-Null-clause-comes c =
+    come_by c.args.task c.args.world.now c.args.live.now c.raise_called.new.world c.raise_called.new.live c.raise_called.result _ _
+    (ap (message_next c.args.program.now (behind_at c.args.task c.args.world.now c.args.live.now) c.args.mailbox) (sym c.in-Null.is)) c.raise_called.ensures.comes
 
 pub returns-in-Ref-clause-comes : goal.returns-in-Ref-clause-comes
 returns-in-Ref-clause-comes c =
