@@ -1,7 +1,7 @@
 -- Slots of which those behind the front name nothing.
-use Rattle.std.proofs.Common.{◌≡◌, ℕ, zero, suc, ◌+◌, ◌-◌, ◌<◌, ◌≤◌, Bool, true, false, refl, ap, sym, ◌∙◌, arith, List, [], ◌∷◌, ◌++◌, length, get_or, map, set, take, drop, replicate, Option, Some, None}
+use Rattle.std.proofs.Common.{◌≡◌, ℕ, zero, suc, ◌+◌, ◌-◌, ◌<◌, ◌≤◌, Bool, true, false, refl, ap, sym, ◌∙◌, arith, List, [], ◌∷◌, ◌++◌, length, get_or, map, set, take, replicate, Option, Some, None}
 use Rattle.std.specs.Prelude.{if◌then◌else◌}
-use Rattle.std.proofs.lemmas.List.{append-nil, append_assoc, take_more, take_all, take-append-drop, length-replicate, length-append, replicate-append-replicate}
+use Rattle.std.proofs.lemmas.List.{append-nil, append_assoc, take_more, take_all, length-replicate, replicate-append-replicate}
 use Rattle.kilim_program.specs.declared.verified.VType.{VType}
 use Rattle.kilim_type_spec.specs.Step.{peek, is_top}
 use Rattle.kilim_isolation_graph.specs.Canonical.{named, renumbered, kept_name, kept_names}

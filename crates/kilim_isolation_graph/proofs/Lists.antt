@@ -1,6 +1,6 @@
 -- Lists, and the words on them by recursion.
-use Rattle.std.proofs.Common.{◌≡◌, ℕ, zero, suc, ◌+◌, ◌-◌, ◌<◌, ◌≤◌, replicate, Bool, true, false, ◌||◌, List, [], ◌∷◌, ◌++◌, length, get_or, drop, drop-cons, reverse, Option, Some, None, refl, sym, ap, ◌∙◌, arith, append_assoc, eqb, if◌then◌else◌}
-use Rattle.std.proofs.lemmas.List.{length-append, length-drop, nil_from_length, reverse-append}
+use Rattle.std.proofs.Common.{◌≡◌, ℕ, zero, suc, ◌+◌, ◌<◌, ◌≤◌, Bool, true, false, ◌||◌, List, [], ◌∷◌, ◌++◌, length, get_or, drop, drop-cons, reverse, Option, Some, None, refl, sym, ap, ◌∙◌, arith, append_assoc, eqb, if◌then◌else◌}
+use Rattle.std.proofs.lemmas.List.{length-drop, nil_from_length, reverse-append}
 use Rattle.kilim_program.specs.declared.verified.VType.{VType}
 use Rattle.kilim_program.specs.declared.verified.VType.TheVariants.{Top}
 use Rattle.kilim_type_spec.specs.Step.{peek}
@@ -139,13 +139,3 @@ listed_more node (suc n) = ap (λ ns. node 0 ∷ ns) (listed_more (λ k. node (s
 
 pub listed_push : (node : ℕ → Node) (n : ℕ) → listed node (n + 1) ≡ listed node n ++ node n ∷ []
 listed_push node n = let one : n + 1 ≡ suc n = omega arith in ap (listed node) one ∙ listed_more node n
-
--- ---- further locals
-
-pub pad_more : (old new total : List (Option ℕ)) (least : ℕ) → length old < least → new ≡ old ++ None ∷ [] →
-    old ++ replicate (least - length old) None ≡ total → new ++ replicate (least - length new) None ≡ total
-pad_more old new total least lt is so_far =
-    let longer : length new ≡ suc (length old) = ap length is ∙ (length-append old (None ∷ []) ∙ omega arith) in
-    let e : suc (least - length new) ≡ least - length old = omega arith in
-    ap (λ v. v ++ replicate (least - length new) None) is
-    ∙ (append_assoc old (None ∷ []) (replicate (least - length new) None) ∙ (ap (λ (k : ℕ). old ++ replicate k None) e ∙ so_far))

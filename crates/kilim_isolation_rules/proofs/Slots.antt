@@ -1,27 +1,15 @@
 -- Slots, their types, and what is passed.
-use Rattle.std.proofs.Common.{◌≡◌, ℕ, zero, suc, ◌+◌, ◌-◌, ◌<◌, ◌≤◌, Bool, true, false, min, List, [], ◌∷◌, ◌++◌, length, get_or, set, drop, Option, Some, None, refl, sym, ap, ◌∙◌, ◌⊎◌, inl, inr, arith, append_assoc}
+use Rattle.std.proofs.Common.{◌≡◌, ℕ, ◌+◌, ◌<◌, ◌≤◌, Bool, false, min, List, [], ◌∷◌, ◌++◌, length, get_or, drop, Option, refl, sym, ap, ◌∙◌, ◌⊎◌, inl, inr, arith, append_assoc}
 use Rattle.std.specs.Prelude.{◌||◌}
 use Rattle.std.proofs.lemmas.List.{append-nil, drop-drop}
 use Rattle.kilim_program.specs.declared.ty.Qualifier.{Qualifier}
 use Rattle.kilim_program.specs.declared.ty.Ty.{Ty}
 use Rattle.kilim_program.specs.declared.verified.VType.{VType}
 use Rattle.kilim_program.specs.Program.{Program}
-use Rattle.kilim_isolation_graph.specs.Graphs.{with_slot}
 use Rattle.kilim_isolation_graph.proofs.Lists.{drop_at, drop_end}
 use Rattle.kilim_isolation_rules.specs.declared.deed.Passed.{Passed}
 use Rattle.kilim_isolation_rules.specs.Calls.{parameters}
 use Rattle.kilim_isolation_rules.specs.Marks.{any_mixes, mixes}
-
-pub slot_more : (xs : List (Option ℕ)) (k : ℕ) (x : Option ℕ) → length xs ≤ k → with_slot (xs ++ None ∷ []) k x ≡ with_slot xs k x
-slot_more [] zero x le = refl
-slot_more [] (suc k) x le = refl
-slot_more (y ∷ ys) zero x le = absurd (omega arith)
-slot_more (y ∷ ys) (suc k) x le = ap (λ zs. y ∷ zs) (slot_more ys k x (omega arith))
-
-pub slot_set : (xs : List (Option ℕ)) (k : ℕ) (x : Option ℕ) → k < length xs → set xs k x ≡ with_slot xs k x
-slot_set [] k x lt = absurd (omega arith)
-slot_set (y ∷ ys) zero x lt = refl
-slot_set (y ∷ ys) (suc k) x lt = ap (λ zs. y ∷ zs) (slot_set ys k x (omega arith))
 
 none_mixes : (p : Program) (ts : List VType) → any_mixes p ts [] ≡ false
 none_mixes p [] = refl

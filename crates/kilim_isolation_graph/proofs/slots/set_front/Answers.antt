@@ -1,4 +1,4 @@
-use Rattle.std.proofs.Common.{rules, ◌∙◌, arith}
+use Rattle.std.proofs.Common.{rules, ◌∙◌}
 use Rattle.kilim_isolation_graph.proofs.Fronts.{one_more, set_there}
 use Rattle.kilim_isolation_graph.proofs.slots.set_front.Goals as goal
 
