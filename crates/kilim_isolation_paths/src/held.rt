@@ -3,7 +3,7 @@
 ghost use Rattle.std.specs.Prelude.{◌≡◌, ◌↔◌, IsTrue, IfOk, IfSome, Some, slice_get};
 
 use crate::machine::State;
-use kilim_units::{NoMemory, unmet};
+use kilim_units::{NoMemory, no_room, unmet};
 use std::alloc::Global;
 use std::marker::Model;
 use std::snapshot::Snapshot;
@@ -87,7 +87,8 @@ impl<S: State> Held<S> {
         }
         match &self.state {
             Some(own) => Ok(inner(own).is_same(state)),
-            None => Err(NoMemory),
+            // room: a quarter of a gigabyte of states; the search then begins once more
+            None => Err(no_room()),
         }
     }
 

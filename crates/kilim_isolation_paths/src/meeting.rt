@@ -3,7 +3,7 @@
 ghost use Rattle.std.specs.Prelude.{◌≡◌};
 
 use crate::machine::{Exit, Moves};
-use kilim_units::NoMemory;
+use kilim_units::{NoMemory, no_room};
 use std::alloc::Global;
 
 // A place to which one more exit leads.
@@ -36,7 +36,8 @@ pub fn meets_of<M: Moves>(alloc: Global, machine: &M) -> Result<Vec<bool>, NoMem
     };
     for at in 0..size {
         let Ok(place) = u32::try_from(at) else {
-            return Err(NoMemory);
+            // room: a place of 2^32
+            return Err(no_room());
         };
         let Ok(exits) = machine.exits(place) else {
             return Err(NoMemory);
