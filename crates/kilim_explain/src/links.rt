@@ -8,7 +8,7 @@ use crate::methods::{
 use crate::placed::{Spot, push_class_head, push_head, push_instead, push_line_at};
 use crate::sources::{Sources, load};
 use kilim_class_file::{ClassFile, MemberInfo};
-use kilim_explain_words::{Advice, link_advice, number, push_class};
+use kilim_explain_words::{Advice, link_advice, number, push_class, simple};
 use kilim_link_views::own_name;
 use kilim_outside::Folder;
 use kilim_pieces::{Piece, behind, between, push, word};
@@ -173,11 +173,15 @@ fn push_link_of_class<F: Folder>(
     advice: Advice,
 ) -> Result<(), NoMemory> {
     let alloc = *out.allocator();
-    let Some(line) = line_of_class(alloc, file)? else {
-        return push_plain(out, name, "class ", advice);
-    };
     load(alloc, sources, folder, near.below, file, class, near.beside)?;
-    push_class_head(out, sources, name, line, advice)?;
+    let first = match line_of_class(alloc, file)? {
+        Some(line) => Some(line),
+        None => sources.declared_at(simple(name)),
+    };
+    if first.is_none() && sources.name().is_empty() {
+        return push_plain(out, name, "class ", advice);
+    }
+    push_class_head(out, sources, name, first, advice)?;
     push_instead(out, advice)
 }
 

@@ -62,21 +62,26 @@ pub fn push_head(
     push(out, &[Piece::Text("\n")])
 }
 
-/// What begins a block on a whole class: the source and the first line of its code; what is wrong; the class; and the line.
+/// What begins a block on a whole class: the source and the first line of its code, or of its declaration, if one is known; what is wrong; the
+/// class; and the line.
 pub fn push_class_head(
     out: &mut Vec<u8>,
     source: &Sources,
     class: &[u8],
-    line: usize,
+    first: Option<usize>,
     advice: Advice,
 ) -> Result<(), NoMemory> {
     let name = source.name();
     push(
         out,
+        &[Piece::Plain(if name.is_empty() { class } else { name })],
+    )?;
+    if let Some(line) = first {
+        push(out, &[Piece::Text(":"), Piece::Number(line)])?;
+    }
+    push(
+        out,
         &[
-            Piece::Plain(if name.is_empty() { class } else { name }),
-            Piece::Text(":"),
-            Piece::Number(line),
             Piece::Text(": "),
             Piece::Text(advice.what),
             Piece::Text("\n    in class "),
@@ -84,7 +89,10 @@ pub fn push_class_head(
     )?;
     push_class(out, class)?;
     push(out, &[Piece::Text("\n")])?;
-    push_source(out, source, line)
+    match first {
+        Some(line) => push_source(out, source, line),
+        None => Ok(()),
+    }
 }
 
 /// A line of the source, where it is known.

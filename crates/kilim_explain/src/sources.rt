@@ -83,6 +83,34 @@ fn trimmed(line: &[u8]) -> &[u8] {
     between(line, from, to)
 }
 
+// Whether a byte is one of a name's letters and digits.
+fn is_of_name(byte: u8) -> bool {
+    byte.is_ascii_alphanumeric() || byte == b'_' || byte == b'$'
+}
+
+// Whether a text begins with a word, a space, and that name.
+fn begins_with(text: &[u8], word: &[u8], name: &[u8]) -> bool {
+    let behind = between(text, word.len(), text.len());
+    let rest = between(behind, name.len(), behind.len());
+    text.starts_with(word)
+        && behind.starts_with(name)
+        && !rest.first().is_some_and(|byte| is_of_name(*byte))
+}
+
+// Whether a line declares a class, an interface or an enum of that name.
+fn declares(line: &[u8], name: &[u8]) -> bool {
+    for i in 0..line.len() {
+        let rest = between(line, i, line.len());
+        if begins_with(rest, b"class ", name)
+            || begins_with(rest, b"interface ", name)
+            || begins_with(rest, b"enum ", name)
+        {
+            return true;
+        }
+    }
+    false
+}
+
 impl Sources {
     /// No source is known.
     pub fn new(alloc: Global) -> Sources {
@@ -97,6 +125,16 @@ impl Sources {
     /// The name of the source, with the folders of its package; nothing where the class file doesn't tell.
     pub fn name(&self) -> &[u8] {
         self.name.as_slice()
+    }
+
+    /// The first line that declares a class of that name, without its package and the classes around it; none where the source isn't known.
+    pub fn declared_at(&self, name: &[u8]) -> Option<usize> {
+        for line in 1..self.starts.len() {
+            if declares(self.line(line), name) {
+                return Some(line);
+            }
+        }
+        None
     }
 
     /// A line without blanks at its ends, from 1 on; nothing where it isn't known.

@@ -10,7 +10,7 @@ mod numbers;
 mod rules;
 
 pub use advice::Advice;
-pub use java::{push_class, push_method};
+pub use java::{push_class, push_method, simple};
 pub use linking::{class_advice, link_advice, main_advice, weave_advice};
 pub use numbers::number;
 pub use rules::{advice_of, name_of};
