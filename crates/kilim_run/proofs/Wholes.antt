@@ -30,11 +30,11 @@ is_of main limits code can = record { run = record { served = record { serves = 
 
 -- where no local is taken for live, none has to be
 stacks_alone : Liveness
-stacks_alone = λ id at k. false
+stacks_alone = record { top = λ id at k. false; below = λ id at k. false }
 
 none_live : (p : Program) → AreLive p stacks_alone
 unfolding stacks_alone
-none_live p id m at k there e = absurd (let z : false ≡ true = e in cc)
+none_live p = (λ id m at k there e. absurd (let z : false ≡ true = e in cc), λ id m at k there e. absurd (let z : false ≡ true = e in cc))
 
 pub is_journal : MovedIsWhole → RunsAreReadable → (set : Setting) (W : Program) (marks : List (List Bool)) → CanServe set W marks → (es : List Entry) → MovedWhole set es → JournalFits es → IsJournalOf set es
 is_journal law readable set W marks can es moved fits = record {

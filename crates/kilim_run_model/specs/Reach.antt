@@ -39,14 +39,20 @@ abbrev pub LiveNames : (ℕ → Bool) → ℕ → List Value → ℕ → Type 0
 LiveNames live i [] n = ⊥
 LiveNames live i (v ∷ vs) n = ((live i ≡ true) × Names v n) ⊎ LiveNames live (suc i) vs n
 
--- Which locals are live, by method, place and slot. A lower frame has the place behind its call, so a local of it counts
--- where it is live after the call, and the call's arguments are no longer on its stack.
-abbrev pub Liveness : Type 0
-Liveness = MethodId → ℕ → ℕ → Bool
+-- Which locals count, by method, place and slot: of the top frame, and of one below it. A lower frame has the place behind its
+-- call, and the call's arguments are no longer on its stack. A local of it may count where it is live after the call, and where it
+-- is live at a handler whose range has the call.
+pub record Liveness : Type 0 where
+  pub top : MethodId → ℕ → ℕ → Bool
+  pub below : MethodId → ℕ → ℕ → Bool
+
+abbrev pub LowerName : Liveness → List Activation → ℕ → Type 0
+LowerName live [] n = ⊥
+LowerName live (f ∷ fs) n = SomeNames f.stack n ⊎ (LiveNames (live.below f.method f.place) 0 f.locals n ⊎ LowerName live fs n)
 
 abbrev pub FramesName : Liveness → List Activation → ℕ → Type 0
 FramesName live [] n = ⊥
-FramesName live (f ∷ fs) n = SomeNames f.stack n ⊎ (LiveNames (live f.method f.place) 0 f.locals n ⊎ FramesName live fs n)
+FramesName live (f ∷ fs) n = SomeNames f.stack n ⊎ (LiveNames (live.top f.method f.place) 0 f.locals n ⊎ LowerName live fs n)
 
 abbrev pub MaybeNames : Option ℕ → ℕ → Type 0
 MaybeNames None n = ⊥

@@ -1,9 +1,11 @@
 -- What the top call promises: what each status says of what was read, and of what was written. From `Promises` it is three
 -- steps to what a whole run is: `WroteText`, `IsWholeRun`, and `Whole` of kilim_run_model.
-use Rattle.std.specs.Prelude.{◌≡◌, ℕ, true, List, [], ◌∷◌, ◌++◌, take, drop, map, length, Option, Some, None, Contains, ◌≤◌, ◌↔◌, ◌⊎◌}
+use Rattle.std.specs.Prelude.{◌≡◌, ℕ, Bool, true, ◌&&◌, nat_le, nat_lt, slice_get, List, [], ◌∷◌, ◌++◌, take, drop, map, length, Option, Some, None, Contains, ◌≤◌, ◌↔◌, ◌⊎◌}
 use Rattle.std.specs.List.{filter}
 use Rattle.kilim_program.specs.Program.{Program}
+use Rattle.kilim_program.specs.declared.class.Handler.{Handler}
 use Rattle.kilim_program.specs.declared.class.Method.{Method}
+use Rattle.kilim_program.specs.declared.instr.Instr.{Instr}
 use Rattle.kilim_program.specs.declared.names.ClassId.{ClassId}
 use Rattle.kilim_program.specs.declared.names.MethodId.{MethodId}
 use Rattle.kilim_program.specs.Names.{class_named, method_at}
@@ -15,6 +17,7 @@ use Rattle.kilim_outside.specs.declared.folder.FailedCall.TheVariants.{Read, Wri
 use Rattle.kilim_outside.specs.Files.{Files, content_of, file_limit}
 use Rattle.kilim_outside.specs.Causes.{Appended, Rose}
 use Rattle.kilim_run_state.specs.declared.run.Limits.{Limits}
+use Rattle.kilim_run_state.specs.Machine.{stands_behind}
 use Rattle.kilim_program.specs.Members.{is_fit_main}
 use Rattle.kilim_run_model.specs.Reach.{Liveness, PlaysIsolated}
 use Rattle.kilim_run_model.specs.Runs.{Whole}
@@ -42,8 +45,20 @@ abbrev pub run_of : Program → ClassId → Limits → Setting
 run_of program main limits = record { program = program; main = main; limits = limits }
 
 -- what is taken for live is: some path reads the local before it is written
+abbrev pub TopLive : Program → (MethodId → ℕ → ℕ → Bool) → Type 0
+TopLive program table = (id : MethodId) (m : Method) (at k : ℕ) → method_at program id ≡ Some m → table id at k ≡ true → Live m k at
+
+-- it is live at a handler whose range has the call behind which the place stands
+abbrev pub IsLiveAtHandler : Method → (k place : ℕ) → Type 0
+IsLiveAtHandler m k place =
+    (call : ℕ × Instr) × (h : Handler) × (stands_behind m.code m.code_length place ≡ Some call) × ((n : ℕ) × (slice_get m.handlers n ≡ Some h)) × ((nat_le h.start call.0 && nat_lt call.0 h.end) ≡ true) × Live m k h.at
+
+-- of a frame that waits behind a call: after the call, or at such a handler
+abbrev pub LowerLive : Program → (MethodId → ℕ → ℕ → Bool) → Type 0
+LowerLive program table = (id : MethodId) (m : Method) (at k : ℕ) → method_at program id ≡ Some m → table id at k ≡ true → Live m k at ⊎ IsLiveAtHandler m k at
+
 abbrev pub AreLive : Program → Liveness → Type 0
-AreLive program live = (id : MethodId) (m : Method) (at k : ℕ) → method_at program id ≡ Some m → live id at k ≡ true → Live m k at
+AreLive program live = TopLive program live.top × LowerLive program live.below
 
 -- In no interleaving of the program's threads is an object reached by two of them, by a thread and a place in a queue, or by
 -- two places in queues: whatever locals are taken as live, if they are.

@@ -3,6 +3,7 @@ use Rattle.std.proofs.Common.{◌≡◌, ◌⊎◌, inl, inr, ℕ, suc, ◌+◌,
 use Rattle.std.specs.Prelude.{slice_get}
 use Rattle.std.specs.FinMap.{get}
 use Rattle.std.proofs.lemmas.Bool.{and_parts}
+use Rattle.kilim_program.specs.declared.class.Handler.{Handler}
 use Rattle.kilim_program.specs.declared.class.Method.{Method}
 use Rattle.kilim_program.specs.declared.names.MethodId.{MethodId}
 use Rattle.kilim_program.specs.declared.ty.Kind.{Kind}
@@ -18,13 +19,13 @@ use Rattle.kilim_program.specs.Names.{method_at}
 use Rattle.kilim_program.specs.Program.{Program}
 use Rattle.kilim_run_state.specs.declared.value.Object.{Object as HeapObject}
 use Rattle.kilim_run_state.specs.Machine.{Activation, Objects}
-use Rattle.kilim_run_model.specs.Reach.{Below, FramesName, LiveNames, Liveness, MaybeNames, Names as NamesOne, SomeNames}
+use Rattle.kilim_run_model.specs.Reach.{Below, FramesName, LowerName, LiveNames, Liveness, MaybeNames, Names as NamesOne, SomeNames}
 use Rattle.kilim_type_spec.specs.Step.{Types, assignable, is_top, peek, result_types, vtype}
 use Rattle.kilim_type_spec.specs.Typed.{FlowsInto, GoesOn, Live, ReadsIt, all_assignable, declared, has_code}
 use Rattle.kilim_type_laws.specs.Laws.{typing_at}
 use Rattle.kilim_type_laws.proofs.ByPlace.{typed_by_place}
 use Rattle.kilim_type_laws.proofs.Itself.{flows_itself}
-use Rattle.kilim_isolation_paths.specs.Paths.{Reaches}
+use Rattle.kilim_isolation_paths.specs.Paths.{Has, Reaches}
 use Rattle.kilim_isolation_laws.specs.forest.Relation.{Frames}
 use Rattle.kilim_isolation_laws.specs.forest.Laws.{IsPlace}
 use Rattle.kilim_isolation_graph.specs.declared.graph.Graph.{Graph}
@@ -38,7 +39,7 @@ use Rattle.kilim_isolation.specs.Walks.{entry_graph, machine_of}
 use Rattle.kilim_type_sound.specs.Fits as fits
 use Rattle.kilim_type_sound.specs.Fits.{AValue, AreThere, Awaited, BelowFit, Classes, FrameFits, Holds, Nothing, StackFits, Wanted, has_type, have_types, result_awaited, result_of}
 use Rattle.kilim_isolation_laws.specs.reached_objects.live.Laws.{IsAcceptedBy, IsThere as LiveIsThere}
-use Rattle.kilim_isolation_laws.proofs.reached_objects.live.NoHandlers.{handlers_flow}
+use Rattle.kilim_isolation_laws.proofs.reached_objects.live.NoHandlers.{handlers_flow, no_handler}
 use Rattle.kilim_isolation_laws.proofs.reached_objects.live.Gone.{result_stays}
 use Rattle.kilim_isolation_laws.proofs.reached_objects.live.Live.{live_is_there}
 use Rattle.kilim_isolation_laws.proofs.reached_objects.live.Locals.{result_locals}
@@ -47,7 +48,7 @@ use Rattle.kilim_isolation_laws.proofs.reached_objects.walk.Methods.{every_metho
 use Rattle.kilim_isolation_laws.specs.graph_rows.Holds.{AllWait, SlotFits, WaitFits, Waiting, is_tree_object, named_by, sort, trees, value_at, waiting_named}
 use Rattle.kilim_isolation_laws.proofs.graph_rows.Locals.{value_get}
 use Rattle.kilim_isolation_laws.specs.reached_objects.graphs.Threads.{AllWaitFor, Becomes, Listed, TopFits, Waits, keepers}
-use Rattle.kilim_isolation_laws.specs.reached_objects.Laws.{AreLive, FitsBoth, IsChecked, ReachedAreThere, TopStacksAreThere, typed}
+use Rattle.kilim_isolation_laws.specs.reached_objects.Laws.{AreLive, FitsBoth, IsChecked, IsLiveAtHandler, ReachedAreThere, TopStacksAreThere, typed}
 use Rattle.kilim_isolation_laws.proofs.reached_objects.Held.{IsThere, below_there}
 use Rattle.kilim_isolation_laws.proofs.reached_objects.Slots.{free_items, live_at, slot_there, sort_known, stack_there}
 
@@ -111,7 +112,10 @@ module _ (p : Program) (wanted : Wanted) (live : Liveness) (of : Classes) (h : O
   -- ---- the top frame
 
   abbrev Names : Activation → ℕ → Type 0
-  Names a n = SomeNames a.stack n ⊎ LiveNames (live a.method a.place) 0 a.locals n
+  Names a n = SomeNames a.stack n ⊎ LiveNames (live.top a.method a.place) 0 a.locals n
+
+  abbrev LowerNames : Activation → ℕ → Type 0
+  LowerNames a n = SomeNames a.stack n ⊎ LiveNames (live.below a.method a.place) 0 a.locals n
 
   -- a live local has a type, by which its value is typed
   local_typed : (a : Activation) (awaited : Awaited) (m : Method) → method_at p a.method ≡ Some m → (fit : FrameFits p (typing_at p) wanted of awaited a) → (j n : ℕ) → Live m j a.place → is_top (peek (typing_at p a.method a.place).locals j) ≡ false → slice_get a.locals j ≡ Some (Ref n) →
@@ -130,9 +134,9 @@ module _ (p : Program) (wanted : Wanted) (live : Liveness) (of : Classes) (h : O
       stack_there p t.method of h (named_by t.graph t.at) (length t.graph.nodes) f.stack f.stack t.graph.stack a.stack t.stands.holds.slots.on_stack (flows_itself p checked.keeps f).stack typed (λ k x e lt. free_items t.graph t.graph.stack none k x e) n names
   top_there a below result t fit n (inr names) =
       let f = typing_at p a.method a.place in
-      let l = live_at (live a.method a.place) 0 a.locals n names in
+      let l = live_at (live.top a.method a.place) 0 a.locals n names in
       let number : 0 + l.0 ≡ l.0 = omega arith in
-      let lives = alive a.method t.method a.place l.0 t.is (subst (λ (k : ℕ). live a.method a.place k ≡ true) number l.1) in
+      let lives = alive.0 a.method t.method a.place l.0 t.is (subst (λ (k : ℕ). live.top a.method a.place k ≡ true) number l.1) in
       let there = live_in a.method t.method t.first t.is t.coded t.begins a.place t.graph t.reaches l.0 lives in
       let typed = local_typed a Nothing t.method t.is fit l.0 n lives there.typed l.2 in
       slot_there p h (named_by t.graph t.at) (length t.graph.nodes) (sort p t.method (peek f.locals l.0)) (slot t.graph.locals l.0) n (sort_known p t.method of (peek f.locals l.0) (peek f.locals l.0) n ((flows_itself p checked.keeps f).locals l.0) typed) (λ x e lt. there.lives x e)
@@ -162,7 +166,12 @@ module _ (p : Program) (wanted : Wanted) (live : Liveness) (of : Classes) (h : O
   gone_later : (gets : Option Ty) (g : Graph) (x : ℕ) → x < length g.nodes → is_gone (node_of (given_result p gets g) x).standing ≡ false → is_gone (node_of g x).standing ≡ false
   gone_later gets g x lt lives = not_both (is_gone (node_of g x).standing) (λ gone. true≢false (sym ((result_stays p gets g).gone x lt gone) ∙ lives))
 
-  waiting_there : (a : Activation) (w : Waiting) (gets gives : Option Ty) → Waits p (typing_at p) listed a w gets gives → WaitFits p h w → FrameFits p (typing_at p) wanted of (result_awaited gets) a → (n : ℕ) → Names a n → IsThere h n
+  -- no method has an exception table
+  behind : (m : Method) (at k : ℕ) → ((hd : Handler) → Has m.handlers hd → ⊥) → Live m k at ⊎ IsLiveAtHandler m k at → Live m k at
+  behind m at k none (inl l) = l
+  behind m at k none (inr l) = absurd (none l.1 l.3)
+
+  waiting_there : (a : Activation) (w : Waiting) (gets gives : Option Ty) → Waits p (typing_at p) listed a w gets gives → WaitFits p h w → FrameFits p (typing_at p) wanted of (result_awaited gets) a → (n : ℕ) → LowerNames a n → IsThere h n
   waiting_there a w gets gives ws fits fit n (inl names) =
       let f = typing_at p a.method a.place in
       let same = same_method fit.method w.method (method_at p a.method) fit.there ws.is in
@@ -174,9 +183,9 @@ module _ (p : Program) (wanted : Wanted) (live : Liveness) (of : Classes) (h : O
   waiting_there a w gets gives ws fits fit n (inr names) =
       let f = typing_at p a.method a.place in
       let g = given_result p gets w.graph in
-      let l = live_at (live a.method a.place) 0 a.locals n names in
+      let l = live_at (live.below a.method a.place) 0 a.locals n names in
       let number : 0 + l.0 ≡ l.0 = omega arith in
-      let lives = alive a.method w.method a.place l.0 ws.is (subst (λ (k : ℕ). live a.method a.place k ≡ true) number l.1) in
+      let lives = behind w.method a.place l.0 (λ hd has. no_handler p checked.keeps a.method w.method ws.is hd has) (alive.1 a.method w.method a.place l.0 ws.is (subst (λ (k : ℕ). live.below a.method a.place k ≡ true) number l.1)) in
       let there = live_in a.method w.method ws.first ws.is ws.coded ws.begins a.place (canonical_at (declared w.method a.place) g) ws.reaches l.0 lives in
       let typed = local_typed a (result_awaited gets) w.method ws.is fit l.0 n lives there.typed l.2 in
       let flows = becomes_flows (record w.types { stack = result_types gets ++ w.types.stack }) f (declared w.method a.place) ws.types in
@@ -189,7 +198,7 @@ module _ (p : Program) (wanted : Wanted) (live : Liveness) (of : Classes) (h : O
 
   -- ---- all frames
 
-  below_name : (kept : Option ℕ) (frames : List Activation) (ws : List Waiting) (gets fits : Option Ty) → fits ≡ gets → AllWaitFor p (typing_at p) listed kept frames ws gets → AllWait p h ws → BelowFit p (typing_at p) wanted of fits frames → (n : ℕ) → FramesName live frames n → IsThere h n
+  below_name : (kept : Option ℕ) (frames : List Activation) (ws : List Waiting) (gets fits : Option Ty) → fits ≡ gets → AllWaitFor p (typing_at p) listed kept frames ws gets → AllWait p h ws → BelowFit p (typing_at p) wanted of fits frames → (n : ℕ) → LowerName live frames n → IsThere h n
   below_name kept [] ws gets fits same waits all fit n names = absurd names
   below_name kept (a ∷ rest) [] gets fits same waits all fit n names = absurd waits
   below_name kept (a ∷ rest) (w ∷ ws) gets fits same waits all fit n names = by names (λ s. below_name kept rest ws waits.0 (result_of (method_at p a.method)) next waits.2 all.1 fit.1 n s)
@@ -200,7 +209,7 @@ module _ (p : Program) (wanted : Wanted) (live : Liveness) (of : Classes) (h : O
       next : result_of (method_at p a.method) ≡ waits.0
       next = ap result_of waits.1.is ∙ waits.1.result
 
-      by : SomeNames a.stack n ⊎ (LiveNames (live a.method a.place) 0 a.locals n ⊎ FramesName live rest n) → (FramesName live rest n → IsThere h n) → IsThere h n
+      by : SomeNames a.stack n ⊎ (LiveNames (live.below a.method a.place) 0 a.locals n ⊎ LowerName live rest n) → (LowerName live rest n → IsThere h n) → IsThere h n
       by (inl s) later = waiting_there a w gets waits.0 waits.1 all.0 here n (inl s)
       by (inr (inl s)) later = waiting_there a w gets waits.0 waits.1 all.0 here n (inr s)
       by (inr (inr s)) later = later s
@@ -228,7 +237,7 @@ module _ (p : Program) (wanted : Wanted) (live : Liveness) (of : Classes) (h : O
   reached kept [] both n (inr is) = tree_there n (both.graphs.there n (maybe_is kept n is))
   reached kept (top ∷ frames) both n (inl names) = by names
     where
-      by : SomeNames top.stack n ⊎ (LiveNames (live top.method top.place) 0 top.locals n ⊎ FramesName live frames n) → IsThere h n
+      by : SomeNames top.stack n ⊎ (LiveNames (live.top top.method top.place) 0 top.locals n ⊎ LowerName live frames n) → IsThere h n
       by (inl s) = top_there top both.graphs.below both.graphs.result both.graphs.top_fits both.types.frames.0 n (inl s)
       by (inr (inl s)) = top_there top both.graphs.below both.graphs.result both.graphs.top_fits both.types.frames.0 n (inr s)
       by (inr (inr s)) = below_name kept frames both.graphs.below both.graphs.result (result_of (method_at p top.method)) (ap result_of both.graphs.top_fits.is ∙ both.graphs.top_fits.gives) both.graphs.waits both.graphs.top_fits.stands.holds.waits both.types.frames.1 n s
@@ -243,7 +252,7 @@ reached_are_there p wanted live of kept frames h checked alive both n x names be
 
 -- none is taken for live
 none_live : Liveness
-none_live id at k = false
+none_live = record { top = λ id at k. false; below = λ id at k. false }
 
 items_there : (h : Objects) (vs : List Value) → ((n : ℕ) → SomeNames vs n → IsThere h n) → AreThere h vs
 items_there h [] each = tt
@@ -260,7 +269,7 @@ items_there h (v ∷ vs) each = (by v (λ n e. each n (inl e)), items_there h vs
 
 none_alive : (p : Program) → AreLive p none_live
 unfolding none_live
-none_alive p id m at k is e = absurd (true≢false (sym e))
+none_alive p = (λ id m at k is e. absurd (true≢false (sym e)), λ id m at k is e. absurd (true≢false (sym e)))
 
 pub top_stacks_are_there : TopStacksAreThere
 top_stacks_are_there p wanted of kept top frames h checked both = items_there h top.stack (λ n names. reached p wanted none_live of h checked (none_alive p) kept (top ∷ frames) both n (inl (inl names)))

@@ -16,7 +16,7 @@ use Rattle.kilim_run_state.specs.Trees.{OfMessage}
 use Rattle.kilim_run_model.specs.State.{Setting, is_fit, Thread, Alive, Ended, State, first_state}
 use Rattle.kilim_run_model.specs.Lone.{Lone}
 use Rattle.kilim_run_model.specs.Turn.{kept_by, lone_of}
-use Rattle.kilim_run_model.specs.Reach.{Names, SomeNames, FieldNames, Holds, Below, Here, Then, LiveNames, Liveness, FramesName, MaybeNames, OptionNames, Reaches, IsQueued, QueueReaches, Isolated, PlaysIsolated}
+use Rattle.kilim_run_model.specs.Reach.{Names, SomeNames, FieldNames, Holds, Below, Here, Then, LiveNames, Liveness, LowerName, FramesName, MaybeNames, OptionNames, Reaches, IsQueued, QueueReaches, Isolated, PlaysIsolated}
 use Rattle.kilim_run_model.specs.Kept.{IsIn, IsKept, Kept}
 use Rattle.kilim_run_model.specs.kin.Kin.{Owner, OfTask, OfPlace, IsKin, AreKin, FieldsKin, ObjectsKin, FramesKin, NameKin, Alike}
 use Rattle.kilim_run_model.specs.kin.Kin as kin
@@ -66,12 +66,24 @@ module _ (of : kin.Names) where
   live_back live i [] (w ∷ ws) x e d = absurd e
   live_back live i (v ∷ vs) [] x e d = absurd e
 
+  locals_back : (table : MethodId → ℕ → ℕ → Bool) (f g : Activation) (x : ℕ) → f.method ≡ g.method → f.place ≡ g.place → AreKin of f.locals g.locals → LiveNames (table g.method g.place) 0 g.locals x →
+      (n : ℕ) × (of n ≡ Some x) × LiveNames (table f.method f.place) 0 f.locals n
+  locals_back table f g x method place kin d =
+      let b = live_back (table g.method g.place) 0 f.locals g.locals x kin d in
+      (b.0, b.1, subst (λ (m : MethodId). LiveNames (table m f.place) 0 f.locals b.0) (sym method) (subst (λ (i : ℕ). LiveNames (table g.method i) 0 f.locals b.0) (sym place) b.2))
+
+  lower_back : (live : Liveness) (fs gs : List Activation) (x : ℕ) → FramesKin of fs gs → LowerName live gs x → (n : ℕ) × (of n ≡ Some x) × LowerName live fs n
+  lower_back live (f ∷ fs) (g ∷ gs) x e (inl d) = let b = values_back f.stack g.stack x e.3 d in (b.0, b.1, inl b.2)
+  lower_back live (f ∷ fs) (g ∷ gs) x e (inr (inl d)) = let b = locals_back live.below f g x e.0 e.1 e.2 d in (b.0, b.1, inr (inl b.2))
+  lower_back live (f ∷ fs) (g ∷ gs) x e (inr (inr d)) = let b = lower_back live fs gs x e.4 d in (b.0, b.1, inr (inr b.2))
+  lower_back live [] [] x e d = absurd d
+  lower_back live [] (g ∷ gs) x e d = absurd e
+  lower_back live (f ∷ fs) [] x e d = absurd e
+
   frames_back : (live : Liveness) (fs gs : List Activation) (x : ℕ) → FramesKin of fs gs → FramesName live gs x → (n : ℕ) × (of n ≡ Some x) × FramesName live fs n
   frames_back live (f ∷ fs) (g ∷ gs) x e (inl d) = let b = values_back f.stack g.stack x e.3 d in (b.0, b.1, inl b.2)
-  frames_back live (f ∷ fs) (g ∷ gs) x e (inr (inl d)) =
-      let b = live_back (live g.method g.place) 0 f.locals g.locals x e.2 d in
-      (b.0, b.1, inr (inl (subst (λ (m : MethodId). LiveNames (live m f.place) 0 f.locals b.0) (sym e.0) (subst (λ (i : ℕ). LiveNames (live g.method i) 0 f.locals b.0) (sym e.1) b.2))))
-  frames_back live (f ∷ fs) (g ∷ gs) x e (inr (inr d)) = let b = frames_back live fs gs x e.4 d in (b.0, b.1, inr (inr b.2))
+  frames_back live (f ∷ fs) (g ∷ gs) x e (inr (inl d)) = let b = locals_back live.top f g x e.0 e.1 e.2 d in (b.0, b.1, inr (inl b.2))
+  frames_back live (f ∷ fs) (g ∷ gs) x e (inr (inr d)) = let b = lower_back live fs gs x e.4 d in (b.0, b.1, inr (inr b.2))
   frames_back live [] [] x e d = absurd d
   frames_back live [] (g ∷ gs) x e d = absurd e
   frames_back live (f ∷ fs) [] x e d = absurd e

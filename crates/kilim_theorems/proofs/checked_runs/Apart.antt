@@ -34,11 +34,11 @@ module _ (p : Program) (keeps : Keeps p) (well : IsWellTyped p) (accepted : IsAc
 
   -- where no local is taken for live, none has to be
   stacks_alone : Liveness
-  stacks_alone = λ id at k. false
+  stacks_alone = record { top = λ id at k. false; below = λ id at k. false }
 
   none_live : (q : Program) → AreLive q stacks_alone
   unfolding stacks_alone
-  none_live q id m at k there e = absurd (let z : false ≡ true = e in cc)
+  none_live q = (λ id m at k there e. absurd (let z : false ≡ true = e in cc), λ id m at k there e. absurd (let z : false ≡ true = e in cc))
 
   pub apart : AcceptedIsKept → NoneShares → PlaysReplay → OneHeapIsMany → RunsApart p
   apart keep none plays many = record {

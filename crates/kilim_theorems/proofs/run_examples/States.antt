@@ -10,7 +10,7 @@ use Rattle.kilim_run_state.specs.declared.value.Object.{Object}
 use Rattle.kilim_run_model.specs.State.{empty_mailbox, same_box}
 use Rattle.kilim_run_model.specs.Turn.{kept_by}
 use Rattle.kilim_run_model.specs.Reach.{Holds, Below, Here, Then, OptionNames, Reaches, IsQueued, QueueReaches}
-use Rattle.kilim_theorems.specs.run_examples.States.{EachHasOne, OnTwoStacks, BelowAnother, InALiveLocal, OnAStackAndInAQueue, TwiceInAQueue, StatesAreJudged, holding, leaf, three, box, parted, none_live}
+use Rattle.kilim_theorems.specs.run_examples.States.{EachHasOne, OnTwoStacks, BelowAnother, InALiveLocal, InALocalBelow, OnAStackAndInAQueue, TwiceInAQueue, StatesAreJudged, holding, leaf, three, box, parted, none_live}
 
 apart : (n : ℕ) → 0 ≡ suc n → ⊥
 apart n e = cc
@@ -122,6 +122,9 @@ below_another i = apart 0 (i.threads 0 1 1 (0, inl (inl (inl refl)), Then 0 (hol
 in_a_live_local : InALiveLocal
 in_a_live_local i = apart 0 (i.threads 0 1 1 (1, inl (inl (inl refl)), Here refl) (1, inl (inr (inl (inl (refl, refl)))), Here refl))
 
+in_a_local_below : InALocalBelow
+in_a_local_below i = apart 0 (i.threads 0 1 1 (1, inl (inl (inl refl)), Here refl) (1, inl (inr (inr (inr (inl (inl (refl, refl)))))), Here refl))
+
 on_a_stack_and_in_a_queue : OnAStackAndInAQueue
 on_a_stack_and_in_a_queue i = i.places 0 box 0 1 (1, inl (inl (inl refl)), Here refl) (0, inl (refl, refl), Then 0 (holding 1) (Here refl) at_zero (inl (inl refl)))
 
@@ -133,6 +136,7 @@ states_are_judged = record {
   on_two_stacks = on_two_stacks;
   below_another = below_another;
   in_a_live_local = in_a_live_local;
+  in_a_local_below = in_a_local_below;
   on_a_stack_and_in_a_queue = on_a_stack_and_in_a_queue;
   twice_in_a_queue = twice_in_a_queue;
   each_has_one = each_has_one;

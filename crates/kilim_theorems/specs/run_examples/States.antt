@@ -40,10 +40,14 @@ state_of threads queue = record { heap = three; next = 3; threads = threads; mai
 
 -- each local is live, or none is
 abbrev pub all_live : Liveness
-all_live m p k = true
+all_live = record { top = λ m p k. true; below = λ m p k. true }
 
 abbrev pub none_live : Liveness
-none_live m p k = false
+none_live = record { top = λ m p k. false; below = λ m p k. false }
+
+-- each local of a frame that waits is, and none of a frame on top
+abbrev pub live_below : Liveness
+live_below = record { top = λ m p k. false; below = λ m p k. true }
 
 abbrev pub OnTwoStacks : Type 0
 OnTwoStacks = Isolated all_live (state_of (stacked 1 ∷ stacked 1 ∷ []) []) → ⊥
@@ -54,6 +58,13 @@ BelowAnother = Isolated all_live (state_of (stacked 0 ∷ stacked 1 ∷ []) []) 
 
 abbrev pub InALiveLocal : Type 0
 InALiveLocal = Isolated all_live (state_of (stacked 1 ∷ thread_with [] (Ref 1 ∷ []) ∷ []) []) → ⊥
+
+-- the frame on top has 0, and the one that waits below it has 1 in a local
+abbrev pub two_frames : Thread
+two_frames = Alive (record { method = method_id 0; place = 0; locals = Ref 0 ∷ []; stack = [] } ∷ record { method = method_id 0; place = 0; locals = Ref 1 ∷ []; stack = [] } ∷ []) 0 0
+
+abbrev pub InALocalBelow : Type 0
+InALocalBelow = Isolated live_below (state_of (stacked 1 ∷ two_frames ∷ []) []) → ⊥
 
 abbrev pub OnAStackAndInAQueue : Type 0
 OnAStackAndInAQueue = Isolated all_live (state_of (stacked 1 ∷ []) ((0, 0) ∷ [])) → ⊥
@@ -72,6 +83,7 @@ pub record StatesAreJudged : Type 0 where
   pub on_two_stacks : OnTwoStacks
   pub below_another : BelowAnother
   pub in_a_live_local : InALiveLocal
+  pub in_a_local_below : InALocalBelow
   pub on_a_stack_and_in_a_queue : OnAStackAndInAQueue
   pub twice_in_a_queue : TwiceInAQueue
   pub each_has_one : EachHasOne

@@ -84,8 +84,8 @@ module _ (set : Setting) (run : IsRunOfAccepted set) where
 
     pub known_at : (first : Thread) → IsOfCourse set first → HasFew first → first ≢ Stop Lost → CanPause set W marks form (From set first) → Known set W marks form (From set first)
     known_at first course few stands ready =
-        known set (typing_at set.program) (λ id at k. true) (λ id at k. false) (is_verified set run.keeps run.form run.well run.accepted run.main run.begins) run.main
-        (accepted_is_kept set run (λ id at k. false) (λ id m at k e live. absurd (false≢true live))) W marks form first course few stands (rest_of first course ready)
+        known set (typing_at set.program) (λ id at k. true) (record { top = λ id at k. false; below = λ id at k. false }) (is_verified set run.keeps run.form run.well run.accepted run.main run.begins) run.main
+        (accepted_is_kept set run (record { top = λ id at k. false; below = λ id at k. false }) (λ id m at k e live. absurd (false≢true live), λ id m at k e live. absurd (false≢true live))) W marks form first course few stands (rest_of first course ready)
 
   module _ (short : NoneIsTooLong set.program) (W : Program) (marks : List (List Bool)) (woven : WovenForm set.program W marks) where
     abbrev pub form : Forms set W marks

@@ -220,8 +220,8 @@ module _ (set : Setting) where
   effect_hands Stuck m x b w g = tt
 
 module _ (set : Setting) (run : IsRunOfAccepted set) where
-  kept : Kept (λ id at k. false) set
-  kept = accepted_is_kept set run (λ id at k. false) (λ id m at k e live. absurd (false≢true live))
+  kept : Kept (record { top = λ id at k. false; below = λ id at k. false }) set
+  kept = accepted_is_kept set run (record { top = λ id at k. false; below = λ id at k. false }) (λ id m at k e live. absurd (false≢true live), λ id m at k e live. absurd (false≢true live))
 
   module _ (m : MethodId) (p : ℕ) (l s : List Value) (x : Value) (b : List Frame) (w : World) (of_course : IsOfCourse set (Run m p l s x b w)) (i : Instr) (to : ℕ) (f : fetch set.program m p ≡ Some (i, to)) where
     moved : GivesTree set.program w.heap (move_by set.program (does set.program (own_of set.program m) i to l s w.heap) (frame m p l s) (lone_frames b))

@@ -23,7 +23,7 @@ use Rattle.kilim_fiber_laws.specs.receivers.called.Law.{AllCalled, Bottom}
 use Rattle.kilim_fiber_spec.specs.lone.Law.{lone_frames}
 use Rattle.kilim_weave_laws.specs.woven_programs.Law.{KeepsPauses}
 use Rattle.kilim_fiber_laws.proofs.woven_served.ready.Below.{fit_inner}
-use Rattle.kilim_fiber_laws.proofs.woven_served.ready.There.{AllThere, local_of, rest_of, stack_of}
+use Rattle.kilim_fiber_laws.proofs.woven_served.ready.There.{LowerThere, lower_local_of, lower_rest_of, lower_stack_of}
 use Rattle.kilim_fiber_laws.specs.receivers.Law.{SelvesThere}
 use Rattle.kilim_fiber_spec.specs.alike.Shares.{Agree}
 use Rattle.kilim_fiber_spec.specs.Fibers.{executes_on, frame}
@@ -44,7 +44,7 @@ module _ (set : Setting) (run : IsRunOfAccepted set) (pauses : KeepsPauses set.p
     (facts : (m : MethodId) → Facts set.program W (code set W marks) (form m)) (executes_same : (c : ClassId) → is_task set.program c ≡ true → execute_of W c ≡ execute_of set.program c) where
   -- the slots that are live in methods with pausable calls
   abbrev pub live_in : Liveness
-  live_in m q k = (form m).has_calls && (form m).live q k
+  live_in = record { top = λ m q k. (form m).has_calls && (form m).live q k; below = λ m q k. (form m).has_calls && (form m).live q k }
 
   module _ (of : Classes) (h : Objects) (heap : HeapFits set.program of h) where
     bottom_ready : (c : MethodId) (y : Value) (kept : Option ℕ) → Bottom set.program of kept c y → IsThere h y → (kept ≡ None) × AreReady set W marks form h (Inner c) y []
@@ -62,16 +62,16 @@ module _ (set : Setting) (run : IsRunOfAccepted set) (pauses : KeepsPauses set.p
             ap (λ (o : Option HeapObject). o >>= λ (object : HeapObject). class_of object.class.base >>= λ c. execute_of W c) t.1
             ∙ (ap (λ (ty : Ty). class_of ty.base >>= λ c. execute_of W c) same ∙ (executes_same b.class b.task ∙ b.begins))
 
-    pub ready_below : (links : List Link) (c : MethodId) (y : Value) (kept : Option ℕ) → is_pausable set.program c ≡ true → AllCalled set.program of kept c y (u_frames links) → SelvesThere set h c y (u_frames links) → AllThere h live_in (lone_frames (u_frames links)) → AllStand set W marks form links →
+    pub ready_below : (links : List Link) (c : MethodId) (y : Value) (kept : Option ℕ) → is_pausable set.program c ≡ true → AllCalled set.program of kept c y (u_frames links) → SelvesThere set h c y (u_frames links) → LowerThere h live_in (lone_frames (u_frames links)) → AllStand set W marks form links →
         (kept ≡ None) × AreReady set W marks form h (Inner c) y links
     ready_below [] c y kept pausable called selves there stand = bottom_ready c y kept (called pausable) (selves pausable)
     ready_below (Lk m from to i callee s l wl x old was ∷ ks) c y kept pausable called selves there stand =
         let group = (facts m).group from to i callee stand.0.0 stand.0.1 in
-        let rest = ready_below ks m x kept group.pausable called.1 selves.1 (rest_of h live_in (frame m to l s) (lone_frames (u_frames ks)) there) stand.1 in (
+        let rest = ready_below ks m x kept group.pausable called.1 selves.1 (lower_rest_of h live_in (frame m to l s) (lone_frames (u_frames ks)) there) stand.1 in (
           rest.0,
           (
-            fit_inner set run pauses W marks form is_form agree of h heap c y called.0.1 m from to i callee l s wl x old was (called.0.0 pausable) stand.0.0 stand.0.1 (selves.0 pausable) (stack_of h live_in (frame m to l s) (lone_frames (u_frames ks)) there)
-                (λ j e v at. local_of h live_in (frame m to l s) (lone_frames (u_frames ks)) there j (and_from (form m).has_calls ((form m).live to j) group.has_calls e) v at)
+            fit_inner set run pauses W marks form is_form agree of h heap c y called.0.1 m from to i callee l s wl x old was (called.0.0 pausable) stand.0.0 stand.0.1 (selves.0 pausable) (lower_stack_of h live_in (frame m to l s) (lone_frames (u_frames ks)) there)
+                (λ j e v at. lower_local_of h live_in (frame m to l s) (lone_frames (u_frames ks)) there j (and_from (form m).has_calls ((form m).live to j) group.has_calls e) v at)
                 (self_of_first set h (u_frames ks) m x selves.1 group.pausable),
             rest.1,
           ),

@@ -1,6 +1,6 @@
 -- From the beginning of a task on, the calls of all frames can be made again at a pause.
 use Rattle.std.proofs.Common.{◌≡◌, ◌≢◌, inl, ℕ, zero, suc, Bool, true, false, List, [], ◌∷◌, Option, Some, None, refl, sym, ap, subst, ◌∙◌}
-use Rattle.std.specs.Prelude.{slice_get}
+use Rattle.std.specs.Prelude.{◌&&◌, slice_get}
 use Rattle.std.proofs.lemmas.Bool.{and_from, and_parts, false≢true}
 use Rattle.std.proofs.lemmas.Option.{none-some}
 use Rattle.kilim_program.specs.declared.class.Method.{Method}
@@ -89,9 +89,12 @@ module _ (set : Setting) (run : IsRunOfAccepted set) (pauses : KeepsPauses set.p
     (is_form : (m : MethodId) (a : Method) → method_at set.program m ≡ Some a → IsFormOf set.program W (code set W marks) m (form m) a) (agree : Agree set.program W) (facts : (m : MethodId) → Facts set.program W (code set W marks) (form m))
     (executes_same : (c : ClassId) → is_task set.program c ≡ true → execute_of W c ≡ execute_of set.program c) where
   kept : Kept (live_in set run pauses W marks form is_form agree facts executes_same) set
-  kept = accepted_is_kept set run (live_in set run pauses W marks form is_form agree facts executes_same) (λ id m at k there live.
-      let both = and_parts (form id).has_calls ((form id).live at k) live in
-      ((is_form id m there).live both.0 at k).0 both.1)
+  kept = accepted_is_kept set run (live_in set run pauses W marks form is_form agree facts executes_same) (is_live, λ id m at k there live. inl (is_live id m at k there live))
+    where
+      is_live : (id : MethodId) (m : Method) (at k : ℕ) → method_at set.program id ≡ Some m → ((form id).has_calls && (form id).live at k) ≡ true → Live m k at
+      is_live id m at k there live =
+          let both = and_parts (form id).has_calls ((form id).live at k) live in
+          ((is_form id m there).live both.0 at k).0 both.1
 
   module _ (m : MethodId) (p to : ℕ) (i : Instr) (callee : Method) (l s s2 args wl : List Value) (x : Value) (old : ℕ) (was : Value) (links : List Link) (w : World) (c : MethodId) (f : fetch set.program m p ≡ Some (i, to)) (hp : pausable_callee set.program i ≡ Some callee)
       (d : does set.program (own_of set.program m) i to l s w.heap ≡ Asks c args to l s2 w.heap) (stand : AllStand set W marks form links) (course : IsOfCourse set (Run m p l s x (u_frames links) w)) (of : Classes) (typed : TypedAs set of (Run m p l s x (u_frames links) w))

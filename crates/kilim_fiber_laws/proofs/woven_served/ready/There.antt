@@ -7,7 +7,7 @@ use Rattle.kilim_program.specs.declared.value.Value.TheVariants as value
 use Rattle.kilim_type_sound.specs.Fits.{AreThere, IsThere}
 use Rattle.kilim_run_state.specs.declared.value.Object.{Object as HeapObject}
 use Rattle.kilim_run_state.specs.Machine.{Activation, Objects}
-use Rattle.kilim_run_model.specs.Reach.{FramesName, LiveNames, Liveness, Names, SomeNames}
+use Rattle.kilim_run_model.specs.Reach.{FramesName, LiveNames, Liveness, LowerName, Names, SomeNames}
 
 value_is : (x y : Value) → Some x ≡ Some y → x ≡ y
 value_is x y e = cc
@@ -42,13 +42,28 @@ module _ (h : Objects) where
     abbrev pub AllThere : List Activation → Type 0
     AllThere fs = (n : ℕ) → FramesName live fs n → (o : HeapObject) × (get h n ≡ Some o)
 
+    -- the same, of frames that wait
+    abbrev pub LowerThere : List Activation → Type 0
+    LowerThere fs = (n : ℕ) → LowerName live fs n → (o : HeapObject) × (get h n ≡ Some o)
+
     pub stack_of : (a : Activation) (fs : List Activation) → AllThere (a ∷ fs) → AreThere h a.stack
     stack_of a fs t = named_there a.stack (λ n s. t n (inl s))
 
-    pub local_of : (a : Activation) (fs : List Activation) → AllThere (a ∷ fs) → (j : ℕ) → live a.method a.place j ≡ true → (v : Value) → slice_get a.locals j ≡ Some v → IsThere h v
+    pub local_of : (a : Activation) (fs : List Activation) → AllThere (a ∷ fs) → (j : ℕ) → live.top a.method a.place j ≡ true → (v : Value) → slice_get a.locals j ≡ Some v → IsThere h v
     local_of a fs t j e v at =
         let d : j ≡ 0 + j = omega arith in
-        live_there (live a.method a.place) 0 a.locals (λ n l. t n (inr (inl l))) j (subst (λ (k : ℕ). live a.method a.place k ≡ true) d e) v at
+        live_there (live.top a.method a.place) 0 a.locals (λ n l. t n (inr (inl l))) j (subst (λ (k : ℕ). live.top a.method a.place k ≡ true) d e) v at
 
-    pub rest_of : (a : Activation) (fs : List Activation) → AllThere (a ∷ fs) → AllThere fs
+    pub rest_of : (a : Activation) (fs : List Activation) → AllThere (a ∷ fs) → LowerThere fs
     rest_of a fs t = λ n f. t n (inr (inr f))
+
+    pub lower_stack_of : (a : Activation) (fs : List Activation) → LowerThere (a ∷ fs) → AreThere h a.stack
+    lower_stack_of a fs t = named_there a.stack (λ n s. t n (inl s))
+
+    pub lower_local_of : (a : Activation) (fs : List Activation) → LowerThere (a ∷ fs) → (j : ℕ) → live.below a.method a.place j ≡ true → (v : Value) → slice_get a.locals j ≡ Some v → IsThere h v
+    lower_local_of a fs t j e v at =
+        let d : j ≡ 0 + j = omega arith in
+        live_there (live.below a.method a.place) 0 a.locals (λ n l. t n (inr (inl l))) j (subst (λ (k : ℕ). live.below a.method a.place k ≡ true) d e) v at
+
+    pub lower_rest_of : (a : Activation) (fs : List Activation) → LowerThere (a ∷ fs) → LowerThere fs
+    lower_rest_of a fs t = λ n f. t n (inr (inr f))
