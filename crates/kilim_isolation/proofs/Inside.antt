@@ -17,8 +17,8 @@ use Rattle.kilim_isolation_paths.specs.declared.machine.Exit.{Exit}
 use Rattle.kilim_isolation_paths.specs.declared.machine.Exit.TheVariants as exit
 use Rattle.kilim_isolation_paths.specs.Paths.{Has, target}
 use Rattle.kilim_program.proofs.lookups.Rising.{longer_by, all_there, same_number}
-use Rattle.kilim_type_spec.specs.Typed.{edges, has_code}
-use Rattle.kilim_isolation.specs.Walks.{covers, exits_at, exits_of, exits_to, handled_at, is_throw, is_walkable}
+use Rattle.kilim_type_spec.specs.Typed.{covers, edges, has_code}
+use Rattle.kilim_isolation.specs.Walks.{exits_at, exits_of, exits_to, handled_at, is_throw, is_walkable}
 
 both : (a b : Bool) → a ≡ true → b ≡ true → (a && b) ≡ true
 both true b e f = f

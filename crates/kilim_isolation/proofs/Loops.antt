@@ -5,7 +5,8 @@ use Rattle.std.specs.Prelude.{Bool, true, false, cond}
 use Rattle.kilim_program.specs.declared.class.Handler.{Handler}
 use Rattle.kilim_isolation_paths.specs.declared.machine.Exit.{Exit}
 use Rattle.kilim_isolation_paths.specs.declared.machine.Exit.TheVariants as exit
-use Rattle.kilim_isolation.specs.Walks.{covers, handled_at}
+use Rattle.kilim_type_spec.specs.Typed.{covers}
+use Rattle.kilim_isolation.specs.Walks.{handled_at}
 
 pub mapped_on : {X A : Type 0} (f : X → A) (now next total : List A) (xs : List X) (i : ℕ) (x d : X) (y : A) → i < length xs → x ≡ get_or xs i d → now ++ map f (drop i xs) ≡ total → y ≡ f x → next ≡ now ++ y ∷ []
     → next ++ map f (drop (i + 1) xs) ≡ total

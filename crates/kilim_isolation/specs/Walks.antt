@@ -1,5 +1,5 @@
 -- The graphs of a method along its paths (own, after Srinivasan and Mycroft, 2008).
-use Rattle.std.specs.Prelude.{ℕ, Bool, true, false, not, ◌&&◌, ◌==◌, nat_le, nat_lt, if◌then◌else◌, List, [], ◌∷◌, ◌++◌, Option, Some, None, Result, Ok, Err, map}
+use Rattle.std.specs.Prelude.{ℕ, Bool, true, false, not, ◌&&◌, ◌==◌, if◌then◌else◌, List, [], ◌∷◌, ◌++◌, Option, Some, None, Result, Ok, Err, map}
 use Rattle.std.specs.List.{list_all}
 use Rattle.kilim_program.specs.declared.class.Handler.{Handler}
 use Rattle.kilim_program.specs.declared.class.Method.{Method}
@@ -10,7 +10,7 @@ use Rattle.kilim_program.specs.Keeps.{code_is_whole}
 use Rattle.kilim_program.specs.Lengths.{fetched, is_code_place}
 use Rattle.kilim_program.specs.Program.{Program}
 use Rattle.kilim_type_spec.specs.Step.{Types, rule}
-use Rattle.kilim_type_spec.specs.Typed.{frame_types, no_types, declared, entry, edges}
+use Rattle.kilim_type_spec.specs.Typed.{covers, frame_types, no_types, declared, entry, edges}
 use Rattle.kilim_isolation_paths.specs.declared.machine.Exit.{Exit}
 use Rattle.kilim_isolation_paths.specs.declared.machine.Exit.TheVariants as exit
 use Rattle.kilim_isolation_paths.specs.Paths.{Machine, target}
@@ -63,10 +63,6 @@ exits_by i next = if is_throw i then [] else exits_to (edges i next)
 abbrev pub exits_of : Option (Instr × ℕ) → List (Option ℕ)
 exits_of None = []
 exits_of (Some found) = exits_by found.0 found.1
-
--- the range of an entry of an exception table has the place (JVMS 4.7.3)
-abbrev pub covers : Handler → ℕ → Bool
-covers h at = nat_le h.start at && nat_lt at h.end
 
 -- a place in the range of a handler leads to the handler as well
 abbrev pub handled_at : List Handler → ℕ → List Exit

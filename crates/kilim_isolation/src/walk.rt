@@ -6,7 +6,7 @@ ghost use Rattle.kilim_program.specs.Lengths.{fetched};
 ghost use Rattle.kilim_program.specs.Names.{method_at};
 ghost use Rattle.kilim_isolation_paths.specs.Paths.{target};
 ghost use Rattle.kilim_isolation_paths.specs.declared.machine.Exit.TheVariants as exit;
-ghost use Rattle.kilim_type_spec.specs.Typed.{frame_types};
+ghost use Rattle.kilim_type_spec.specs.Typed.{covers, frame_types};
 ghost use Rattle.kilim_isolation_graph.specs.Canonical.{canonical_at};
 ghost use Rattle.kilim_isolation_rules.specs.Answers.{IsStep};
 ghost use Rattle.kilim_isolation.specs.Answers.{IsStepOf};
@@ -62,7 +62,7 @@ fn push_leads(exits: &mut Seq<Exit>, places: &[Option<u32>]) -> Result<(), NoMem
 }
 
 fn covers(handler: &Handler, place: u32) -> bool
-    ensures { result ≡ spec.covers handler.now place }
+    ensures { result ≡ covers handler.now place }
 {
     handler.start <= place && place < handler.end
 }

@@ -63,7 +63,7 @@ module _ (set : Setting) (keeps : Keeps set.program) (form : set.program.form 鈮
   sound = is_sound p keeps well accepted
 
   verified : Verified p (typing_at p) wanted
-  verified = are_verified p (typing_at p) wanted keeps (位 id m is coded. typed_by_place p keeps well id m is coded) (位 id m is at found there. are_wanted.all at found.1 found.0)
+  verified = are_verified p (typing_at p) wanted keeps (位 id m is coded. typed_by_place p keeps well id m is coded) (位 id m is at found there. are_wanted.all m.handlers at found.1 found.0)
 
   pub is_verified : IsVerified set (typing_at p) wanted
   is_verified = record { keeps = keeps; form = form; verified = verified }

@@ -8,8 +8,8 @@ use Rattle.kilim_program.specs.declared.class.Method.{Method}
 use Rattle.kilim_program.specs.declared.instr.Instr.{Instr}
 use Rattle.kilim_program.specs.Lengths.{fetched, first_place}
 use Rattle.kilim_program.specs.lookups.Places.{Above, Rising}
-use Rattle.kilim_type_spec.specs.Typed.{Among, edges}
-use Rattle.kilim_type_flow.specs.Marks.{AreBefore, AreEmpty, BeforeSoFar, Further, Goes}
+use Rattle.kilim_type_spec.specs.Typed.{Among}
+use Rattle.kilim_type_flow.specs.Marks.{AreBefore, AreEmpty, BeforeSoFar, Further, Goes, Tos}
 use Rattle.kilim_type_flow.proofs.Lists.{among_last, among_left, last_among, same_or}
 
 -- ---- entries by their places
@@ -103,40 +103,40 @@ one_further p to tos rows news f = record {
 
 -- ---- all edges
 
-pub none_before : (m : Method) (size : ℕ) (rows : List (List ℕ)) → AreEmpty size rows → BeforeSoFar m size 0 rows
-none_before m size rows none = record {
+pub none_before : (tos : Tos) (m : Method) (size : ℕ) (rows : List (List ℕ)) → AreEmpty size rows → BeforeSoFar tos m size 0 rows
+none_before tos m size rows none = record {
   long = none.long;
   sound = λ p q h. absurd (subst (λ (xs : List ℕ). Among xs p) (none.none q) h);
   each = λ at e q lt. absurd (omega arith);
 }
 
-module _ (m : Method) (rising : Rising m.code) where
-  goes : (at : ℕ) (e : ℕ × Instr) (q : ℕ) → slice_get m.code at ≡ Some e → Among (edges e.1 (first_place (drop (at + 1) m.code) m.code_length)) q → Goes m e.0 q
+module _ (leads : Tos) (m : Method) (rising : Rising m.code) where
+  goes : (at : ℕ) (e : ℕ × Instr) (q : ℕ) → slice_get m.code at ≡ Some e → Among (leads e (first_place (drop (at + 1) m.code) m.code_length)) q → Goes leads m e.0 q
   goes at e q is h = record { to = first_place (drop (at + 1) m.code) m.code_length; instr = e.1; there = entry_fetched m.code m.code_length at e rising is; along = h }
 
   pub one_before : (size count : ℕ) (e : ℕ × Instr) (tos : List ℕ) (rows news : List (List ℕ)) → slice_get m.code count ≡ Some e
-      → tos ≡ edges e.1 (first_place (drop (count + 1) m.code) m.code_length) → BeforeSoFar m size count rows → Further e.0 tos rows news → BeforeSoFar m size (count + 1) news
+      → tos ≡ leads e (first_place (drop (count + 1) m.code) m.code_length) → BeforeSoFar leads m size count rows → Further e.0 tos rows news → BeforeSoFar leads m size (count + 1) news
   one_before size count e tos rows news is tos_are b f = record {
     long = f.same ∙ b.long;
     sound = λ p q h. elim (f.only q p h) [
       | inl a ↦ b.sound p q a
-      | inr a ↦ subst (λ (n : ℕ). Goes m n q) (sym a.0) (goes count e q is (subst (λ (xs : List ℕ). Among xs q) tos_are a.1))
+      | inr a ↦ subst (λ (n : ℕ). Goes leads m n q) (sym a.0) (goes count e q is (subst (λ (xs : List ℕ). Among xs q) tos_are a.1))
     ];
     each = λ at d q lt there within h. elim (same_or at count) [
       | inr n ↦ f.keeps q d.0 (b.each at d q (omega arith) there within h)
       | inl same ↦
           let is_d : d ≡ e = same_entry m.code at count d e there is same in
           subst (λ (x : ℕ × Instr). Among (get_or news q []) x.0) (sym is_d)
-          (f.there q (subst (λ (xs : List ℕ). Among xs q) (sym tos_are) (let h2 = subst (λ (x : ℕ × Instr). Among (edges x.1 (first_place (drop (at + 1) m.code) m.code_length)) q) is_d h in subst (λ (n : ℕ). Among (edges e.1 (first_place (drop (n + 1) m.code) m.code_length)) q) same h2))
+          (f.there q (subst (λ (xs : List ℕ). Among xs q) (sym tos_are) (let h2 = subst (λ (x : ℕ × Instr). Among (leads x (first_place (drop (at + 1) m.code) m.code_length)) q) is_d h in subst (λ (n : ℕ). Among (leads e (first_place (drop (n + 1) m.code) m.code_length)) q) same h2))
           (let l = b.long in omega (arith, l, within)))
     ];
   }
 
-  pub all_before : (size count : ℕ) (rows : List (List ℕ)) → length m.code ≤ count → BeforeSoFar m size count rows → AreBefore m size rows
+  pub all_before : (size count : ℕ) (rows : List (List ℕ)) → length m.code ≤ count → BeforeSoFar leads m size count rows → AreBefore leads m size rows
   all_before size count rows all b = record {
     long = b.long;
     sound = b.sound;
     each = λ p q within g.
         let e = entry_of m.code m.code_length p g.instr g.to g.there in
-        b.each e.at (p, g.instr) q (let w = slice_get_within m.code e.at _ e.there in omega (arith, w)) e.there within (subst (λ (n : ℕ). Among (edges g.instr n) q) e.behind g.along);
+        b.each e.at (p, g.instr) q (let w = slice_get_within m.code e.at _ e.there in omega (arith, w)) e.there within (subst (λ (n : ℕ). Among (leads (p, g.instr) n) q) e.behind g.along);
   }

@@ -6,8 +6,8 @@ use Rattle.kilim_program.specs.declared.class.Method.{Method}
 use Rattle.kilim_program.specs.declared.instr.Instr.{Instr}
 use Rattle.kilim_program.specs.Lengths.{fetched, first_place}
 use Rattle.kilim_program.specs.lookups.Places.{Rising}
-use Rattle.kilim_type_spec.specs.Typed.{Among, GoesOn, IsLive, Live, ReadsIt, reads, writes}
-use Rattle.kilim_type_flow.specs.Marks.{AreBefore, AreColumns, EachBelow, EachReadBelow, EachUpTo, Goes, Grown, IsColumn, Marks, NoneReads, Opens, Passes, ReadMarked, ReadsMarked, is_marked}
+use Rattle.kilim_type_spec.specs.Typed.{Among, Catches, GoesOn, IsLive, Live, ReadsIt, reads, writes}
+use Rattle.kilim_type_flow.specs.Marks.{AreBefore, AreColumns, EachBelow, EachReadBelow, EachUpTo, Goes, Grown, IsColumn, Marks, NoneReads, Opens, Passes, ReadMarked, ReadsMarked, Tos, caught_tos, flow_tos, is_marked}
 use Rattle.kilim_type_flow.specs.Table.{live_in}
 use Rattle.kilim_type_flow.proofs.FlowEdges.{entry_fetched, entry_of, found_here, same_entry}
 use Rattle.kilim_type_flow.proofs.Lists.{among_last, among_left, take_next, last_among, marked_within, none_marked, one_less, same_or, set_keeps, set_marks, set_only}
@@ -73,6 +73,7 @@ no_marks m k size = record {
   sound = λ p h. absurd (none_marked size p h);
   waits = λ p h. absurd h;
   closed = λ p q g o h. absurd (none_marked size q h);
+  caught = λ p q g h. absurd (none_marked size q h);
 }
 
 -- live places come
@@ -82,6 +83,10 @@ marks_grow m k P a b c d live g s = record {
   waits = λ p h. elim (g.waits p h) [ inl o ↦ g.keeps p (s.waits p o) | inr o ↦ o ];
   closed = λ p q goes passes h. elim (g.news q h) [
     | inl o ↦ elim (s.closed p q goes passes o) [ inl a ↦ inl (g.keeps p a) | inr w ↦ inr (g.stays q w) ]
+    | inr w ↦ inr w
+  ];
+  caught = λ p q goes h. elim (g.news q h) [
+    | inl o ↦ elim (s.caught p q goes o) [ inl a ↦ inl (g.keeps p a) | inr w ↦ inr (g.stays q w) ]
     | inr w ↦ inr w
   ];
 }
@@ -95,40 +100,60 @@ opened m k passing opens p o =
     let e = entry_of m.code m.code_length p o.instr o.to o.there in
     opens.each e.at (p, o.instr) (slice_get_within m.code e.at _ e.there) e.there o.not_written
 
-goes_on : (m : Method) (k p q : ℕ) → Goes m p q → Passes m k p → Live m k q → Live m k p
+goes_on : (m : Method) (k p q : ℕ) → Goes flow_tos m p q → Passes m k p → Live m k q → Live m k p
 goes_on m k p q g o l =
     let same = there_once m p g.instr o.instr g.to o.to g.there o.there in
     GoesOn p g.to q g.instr g.there (ap (λ (i : Instr). writes i k) same ∙ o.not_written) g.along l
 
--- a place was taken out of the work, and all places before it are marked
-pub turned : (m : Method) (k q : ℕ) (rows : List (List ℕ)) (row : List ℕ) (passing a : List Bool) (b old : List ℕ) (c : List Bool) (d : List ℕ)
-    → row ≡ get_or rows q [] → AreBefore m (length a) rows → Opens m k (length m.code) passing → EachBelow (length a) m.code → Rising m.code
-    → old ≡ b ++ q ∷ [] → Marks m k a old
-    → Grown (λ x. Among row x × (is_marked passing x ≡ true)) a b c d
-    → ((x : ℕ) → Among row x → is_marked passing x ≡ true → is_marked c x ≡ true)
-    → Marks m k c d
-turned m k q rows row passing a b old c d row_is before opens below rising is s g all =
-    let q_marked : is_marked a q ≡ true = s.waits q (subst (λ (xs : List ℕ). Among xs q) (sym is) (last_among b q)) in
-    let q_live : Live m k q = s.sound q q_marked in
-    record {
-      sound = λ p h. elim (g.only p h) [ inl o ↦ s.sound p o | inr o ↦ goes_on m k p q (before.sound p q (subst (λ (xs : List ℕ). Among xs p) row_is o.0)) (opens.sound p o.1) q_live ];
-      waits = λ p h. elim (g.waits p h) [
-        | inl o ↦ g.keeps p (s.waits p (subst (λ (xs : List ℕ). Among xs p) (sym is) (among_left b (q ∷ []) p o)))
-        | inr o ↦ o
-      ];
-      closed = λ p r goes passes h. elim (g.news r h) [
-        | inr w ↦ inr w
-        | inl o ↦ elim (s.closed p r goes passes o) [
-          | inl x ↦ inl (g.keeps p x)
-          | inr w ↦ elim (among_last b q r (subst (λ (xs : List ℕ). Among xs r) is w)) [
-            | inl y ↦ inr (g.stays r y)
-            | inr e ↦ inl (all p
-                (subst (λ (xs : List ℕ). Among xs p) (sym row_is) (before.each p q (marked_within a q q_marked) (subst (λ (n : ℕ). Goes m p n) e goes)))
-                (opened m k passing opens p passes))
-          ]
-        ]
-      ];
-    }
+raises_to : (m : Method) (k p q : ℕ) → Goes (caught_tos m) m p q → Live m k q → Live m k p
+raises_to m k p q g l = Catches p g.to q g.instr g.there g.along l
+
+-- A place was taken out of the work. All places before it that are open are marked, and where it is a handler all places in its range.
+module _ (m : Method) (k q : ℕ) (rows caught_rows : List (List ℕ)) (row caught_row : List ℕ) (passing everywhere a : List Bool) (b old : List ℕ) (c : List Bool) (d : List ℕ) (e : List Bool) (f : List ℕ)
+    (row_is : row ≡ get_or rows q []) (caught_row_is : caught_row ≡ get_or caught_rows q []) (before : AreBefore flow_tos m (length a) rows) (caught : AreBefore (caught_tos m) m (length a) caught_rows)
+    (opens : Opens m k (length m.code) passing) (every : (x : ℕ) → x < length a → is_marked everywhere x ≡ true) (below : EachBelow (length a) m.code) (is : old ≡ b ++ q ∷ []) (s : Marks m k a old)
+    (g : Grown (λ x. Among row x × (is_marked passing x ≡ true)) a b c d) (all : (x : ℕ) → Among row x → is_marked passing x ≡ true → is_marked c x ≡ true)
+    (g2 : Grown (λ x. Among caught_row x × (is_marked everywhere x ≡ true)) c d e f) (all2 : (x : ℕ) → Among caught_row x → is_marked everywhere x ≡ true → is_marked e x ≡ true) where
+  both : Grown (λ x. (Among row x × (is_marked passing x ≡ true)) ⊎ (Among caught_row x × (is_marked everywhere x ≡ true))) a b e f
+  both = grown_more (λ x. Among row x × (is_marked passing x ≡ true)) (λ x. Among caught_row x × (is_marked everywhere x ≡ true))
+      (λ x. (Among row x × (is_marked passing x ≡ true)) ⊎ (Among caught_row x × (is_marked everywhere x ≡ true))) a b c d e f (λ x h. inl h) (λ x h. inr h) g g2
+
+  q_marked : is_marked a q ≡ true
+  q_marked = s.waits q (subst (λ (xs : List ℕ). Among xs q) (sym is) (last_among b q))
+
+  news_live : (p : ℕ) → (Among row p × (is_marked passing p ≡ true)) ⊎ (Among caught_row p × (is_marked everywhere p ≡ true)) → Live m k p
+  news_live p (inl o) = goes_on m k p q (before.sound p q (subst (λ (xs : List ℕ). Among xs p) row_is o.0)) (opens.sound p o.1) (s.sound q q_marked)
+  news_live p (inr o) = raises_to m k p q (caught.sound p q (subst (λ (xs : List ℕ). Among xs p) caught_row_is o.0)) (s.sound q q_marked)
+
+  -- what leads to this place is marked
+  led : (tos : Tos) (p r : ℕ) → Goes tos m p r → (r ≡ q → is_marked e p ≡ true) → (is_marked a p ≡ true) ⊎ Among old r → (is_marked e p ≡ true) ⊎ Among f r
+  led tos p r goes here (inl x) = inl (both.keeps p x)
+  led tos p r goes here (inr w) = elim (among_last b q r (subst (λ (xs : List ℕ). Among xs r) is w)) [ inl y ↦ inr (both.stays r y) | inr same ↦ inl (here same) ]
+
+  flow_here : (p : ℕ) → Goes flow_tos m p q → Passes m k p → is_marked e p ≡ true
+  flow_here p goes passes = g2.keeps p (all p (subst (λ (xs : List ℕ). Among xs p) (sym row_is) (before.each p q (marked_within a q q_marked) goes)) (opened m k passing opens p passes))
+
+  caught_here : (p : ℕ) → Goes (caught_tos m) m p q → is_marked e p ≡ true
+  caught_here p goes =
+      let at = entry_of m.code m.code_length p goes.instr goes.to goes.there in
+      all2 p (subst (λ (xs : List ℕ). Among xs p) (sym caught_row_is) (caught.each p q (marked_within a q q_marked) goes)) (every p (below at.at (p, goes.instr) at.there))
+
+  pub turned : Marks m k e f
+  turned = record {
+    sound = λ p h. elim (both.only p h) [ inl o ↦ s.sound p o | inr o ↦ news_live p o ];
+    waits = λ p h. elim (both.waits p h) [
+      | inl o ↦ both.keeps p (s.waits p (subst (λ (xs : List ℕ). Among xs p) (sym is) (among_left b (q ∷ []) p o)))
+      | inr o ↦ o
+    ];
+    closed = λ p r goes passes h. elim (both.news r h) [
+      | inr w ↦ inr w
+      | inl o ↦ led flow_tos p r goes (λ same. flow_here p (subst (λ (n : ℕ). Goes flow_tos m p n) same goes) passes) (s.closed p r goes passes o)
+    ];
+    caught = λ p r goes h. elim (both.news r h) [
+      | inr w ↦ inr w
+      | inl o ↦ led (caught_tos m) p r goes (λ same. caught_here p (subst (λ (n : ℕ). Goes (caught_tos m) m p n) same goes)) (s.caught p r goes o)
+    ];
+  }
 
 -- in the end all live places are marked
 pub all_marked : (m : Method) (k : ℕ) (marks : List Bool) → Marks m k marks [] → ReadsMarked m k (length m.code) marks → (p : ℕ) → Live m k p → is_marked marks p ≡ true
@@ -137,6 +162,8 @@ all_marked m k marks s reads_are p (ReadsIt p' to i there it) =
     reads_are e.at (p', i) (slice_get_within m.code e.at _ e.there) e.there it
 all_marked m k marks s reads_are p (GoesOn p' to q i there kept along later) =
     elim (s.closed p' q (record { to = to; instr = i; there = there; along = along }) (record { to = to; instr = i; there = there; not_written = kept }) (all_marked m k marks s reads_are q later)) [ inl a ↦ a | inr n ↦ absurd n ]
+all_marked m k marks s reads_are p (Catches p' to q i there along later) =
+    elim (s.caught p' q (record { to = to; instr = i; there = there; along = along }) (all_marked m k marks s reads_are q later)) [ inl a ↦ a | inr n ↦ absurd n ]
 
 -- ---- from entry to entry
 
@@ -184,6 +211,7 @@ module _ (m : Method) (k : ℕ) (rising : Rising m.code) where
 not_live : (m : Method) (k : ℕ) → NoneReads m k → (p : ℕ) → Live m k p → ⊥
 not_live m k none p (ReadsIt p' to i there it) = let e = entry_of m.code m.code_length p' i to there in none e.at (p', i) e.there it
 not_live m k none p (GoesOn p' to q i there kept along later) = not_live m k none q later
+not_live m k none p (Catches p' to q i there along later) = not_live m k none q later
 
 pub no_column : (m : Method) (k : ℕ) → NoneReads m k → IsColumn m k []
 no_column m k none p = (λ h. absurd (cc), λ l. absurd (not_live m k none p l))
@@ -254,8 +282,8 @@ reads_kept m k count old new keeps so at e lt there it = keeps e.0 (so at e lt t
 pub waits_within : (m : Method) (k p : ℕ) (marks : List Bool) (b old : List ℕ) → old ≡ b ++ p ∷ [] → Marks m k marks old → p < length marks
 waits_within m k p marks b old is s = marked_within marks p (s.waits p (subst (λ (xs : List ℕ). Among xs p) (sym is) (last_among b p)))
 
-pub before_below : (m : Method) (size : ℕ) (rows : List (List ℕ)) (q x : ℕ) → AreBefore m size rows → EachBelow size m.code → Among (get_or rows q []) x → x < size
-before_below m size rows q x before below h =
+pub before_below : (tos : Tos) (m : Method) (size : ℕ) (rows : List (List ℕ)) (q x : ℕ) → AreBefore tos m size rows → EachBelow size m.code → Among (get_or rows q []) x → x < size
+before_below tos m size rows q x before below h =
     let g = before.sound x q h in
     let e = entry_of m.code m.code_length x g.instr g.to g.there in
     below e.at (x, g.instr) e.there
@@ -270,3 +298,9 @@ column_is m k marks work none s reads_are p = (s.sound p, all_marked m k marks (
 -- a local that isn't marked as read
 pub none_reads : (m : Method) (read : List Bool) (k : ℕ) (b : Bool) → ReadMarked (length m.code) read m.code → b ≡ is_marked read k → b ≡ false → NoneReads m k
 none_reads m read k b marked is not_read at e there reads_it = both_ways (is_marked read k) (marked at k e (slice_get_within m.code at e there) there reads_it) (sym is ∙ not_read)
+
+-- all places are marked
+pub all_open : (size x : ℕ) → x < size → is_marked (replicate size true) x ≡ true
+all_open zero x lt = absurd (omega arith)
+all_open (suc n) zero lt = refl
+all_open (suc n) (suc x) lt = all_open n x (omega arith)

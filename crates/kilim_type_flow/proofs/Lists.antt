@@ -81,6 +81,6 @@ among_at [] n x h = absurd (cc)
 among_at (y ∷ xs) zero x h = inl (let e : y ≡ x = cc in e)
 among_at (y ∷ xs) (suc n) x h = inr (among_at xs n x h)
 
-pub one_free : (n : ℕ) → replicate n false ++ false ∷ [] ≡ replicate (n + 1) false
-one_free zero = refl
-one_free (suc n) = let one : suc (n + 1) ≡ suc n + 1 = omega arith in ap (λ (bs : List Bool). false ∷ bs) (one_free n) ∙ ap (λ (k : ℕ). replicate k false) one
+pub one_more : (b : Bool) (n : ℕ) → replicate n b ++ b ∷ [] ≡ replicate (n + 1) b
+one_more b zero = refl
+one_more b (suc n) = let one : suc (n + 1) ≡ suc n + 1 = omega arith in ap (λ (bs : List Bool). b ∷ bs) (one_more b n) ∙ ap (λ (k : ℕ). replicate k b) one

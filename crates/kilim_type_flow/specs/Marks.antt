@@ -3,7 +3,7 @@ use Rattle.std.specs.Prelude.{◌≡◌, ◌⊎◌, ◌==◌, ℕ, suc, ◌+◌,
 use Rattle.kilim_program.specs.declared.class.Method.{Method}
 use Rattle.kilim_program.specs.declared.instr.Instr.{Instr}
 use Rattle.kilim_program.specs.Lengths.{fetched, first_place}
-use Rattle.kilim_type_spec.specs.Typed.{Among, Live, edges, reads, writes}
+use Rattle.kilim_type_spec.specs.Typed.{Among, Live, edges, handlers_at, reads, writes}
 
 -- each of the first so many
 abbrev pub EachUpTo : {X : Type 0} → ℕ → List X → (X → Type 0) → Type 0
@@ -30,12 +30,22 @@ ReadMarked count marks code = (at k : ℕ) (e : ℕ × Instr) → at < count →
 
 -- ---- edges
 
--- control goes from a place to another
-pub record Goes (m : Method) (p q : ℕ) : Type 0 where
+-- where edges of some kind lead from an entry of the code, behind which the code goes on at a place
+abbrev pub Tos : Type 0
+Tos = ℕ × Instr → ℕ → List ℕ
+
+abbrev pub flow_tos : Tos
+flow_tos e to = edges e.1 to
+
+abbrev pub caught_tos : Method → Tos
+caught_tos m e to = handlers_at m.handlers e.0
+
+-- an edge leads from a place to another
+pub record Goes (tos : Tos) (m : Method) (p q : ℕ) : Type 0 where
   pub to : ℕ
   pub instr : Instr
   pub there : fetched m.code m.code_length p ≡ Some (instr, to)
-  pub along : Among (edges instr to) q
+  pub along : Among (tos (p, instr) to) q
 
 -- the instruction at a place doesn't write a local
 pub record Passes (m : Method) (k p : ℕ) : Type 0 where
@@ -66,15 +76,15 @@ pub record Further (p : ℕ) (tos : List ℕ) (rows news : List (List ℕ)) : Ty
   pub there : (q : ℕ) → Among tos q → q < length rows → Among (get_or news q []) p
 
 -- of the first instructions
-pub record BeforeSoFar (m : Method) (size count : ℕ) (rows : List (List ℕ)) : Type 0 where
+pub record BeforeSoFar (tos : Tos) (m : Method) (size count : ℕ) (rows : List (List ℕ)) : Type 0 where
   pub long : length rows ≡ size
-  pub sound : (p q : ℕ) → Among (get_or rows q []) p → Goes m p q
-  pub each : (at : ℕ) (e : ℕ × Instr) (q : ℕ) → at < count → slice_get m.code at ≡ Some e → q < size → Among (edges e.1 (first_place (drop (at + 1) m.code) m.code_length)) q → Among (get_or rows q []) e.0
+  pub sound : (p q : ℕ) → Among (get_or rows q []) p → Goes tos m p q
+  pub each : (at : ℕ) (e : ℕ × Instr) (q : ℕ) → at < count → slice_get m.code at ≡ Some e → q < size → Among (tos e (first_place (drop (at + 1) m.code) m.code_length)) q → Among (get_or rows q []) e.0
 
-pub record AreBefore (m : Method) (size : ℕ) (rows : List (List ℕ)) : Type 0 where
+pub record AreBefore (tos : Tos) (m : Method) (size : ℕ) (rows : List (List ℕ)) : Type 0 where
   pub long : length rows ≡ size
-  pub sound : (p q : ℕ) → Among (get_or rows q []) p → Goes m p q
-  pub each : (p q : ℕ) → q < size → Goes m p q → Among (get_or rows q []) p
+  pub sound : (p q : ℕ) → Among (get_or rows q []) p → Goes tos m p q
+  pub each : (p q : ℕ) → q < size → Goes tos m p q → Among (get_or rows q []) p
 
 -- ---- marks and work
 
@@ -96,11 +106,12 @@ pub record Grown (P : ℕ → Type 0) (marks : List Bool) (work : List ℕ) (mar
   pub news : (x : ℕ) → is_marked marks' x ≡ true → (is_marked marks x ≡ true) ⊎ Among work' x
   pub count : unmarked marks' + length work' ≡ unmarked marks + length work
 
--- the marks are of live places; what is before a marked place that no longer waits is marked
+-- the marks are of live places; what is before a marked place that no longer waits is marked, and where that is a handler all that it covers
 pub record Marks (m : Method) (k : ℕ) (marks : List Bool) (work : List ℕ) : Type 0 where
   pub sound : (p : ℕ) → is_marked marks p ≡ true → Live m k p
   pub waits : (p : ℕ) → Among work p → is_marked marks p ≡ true
-  pub closed : (p q : ℕ) → Goes m p q → Passes m k p → is_marked marks q ≡ true → (is_marked marks p ≡ true) ⊎ Among work q
+  pub closed : (p q : ℕ) → Goes flow_tos m p q → Passes m k p → is_marked marks q ≡ true → (is_marked marks p ≡ true) ⊎ Among work q
+  pub caught : (p q : ℕ) → Goes (caught_tos m) m p q → is_marked marks q ≡ true → (is_marked marks p ≡ true) ⊎ Among work q
 
 -- the places whose instructions read the local are marked, as far as the first instructions go
 abbrev pub ReadsMarked : Method → (k count : ℕ) → List Bool → Type 0

@@ -3,11 +3,11 @@
 ghost use Rattle.std.specs.Prelude.{◌≡◌, ◌++◌, ◌∷◌, ◌+◌, ◌<◌, [], Some, length, get_or, set, slice_get, drop, IfOk, OnOk};
 ghost use Rattle.kilim_program.specs.Lengths.{first_place};
 ghost use Rattle.kilim_program.specs.lookups.Places.{Rising};
-ghost use Rattle.kilim_type_spec.specs.Typed.{edges};
-ghost use Rattle.kilim_type_flow.specs.Marks.{AreBefore, AreEmpty, Further};
+ghost use Rattle.kilim_type_spec.specs.Typed.{covers, edges, handlers_at};
+ghost use Rattle.kilim_type_flow.specs.Marks.{AreBefore, AreEmpty, Further, caught_tos, flow_tos};
 
 use crate::{ends_path, jump_targets};
-use kilim_program::{Instr, Method};
+use kilim_program::{Handler, Instr, Method};
 use kilim_units::{NoMemory, Seq};
 use std::alloc::Global;
 
@@ -104,10 +104,68 @@ fn empty_rows(alloc: Global, size: usize) -> Result<Vec<Seq<u32>>, NoMemory>
     Ok(rows)
 }
 
+fn covers(handler: &Handler, place: u32) -> bool
+    ensures { result ≡ covers handler.now place }
+{
+    handler.start <= place && place < handler.end
+}
+
+/// Where a place leads when the instruction there raises.
+pub fn handlers_at(alloc: Global, handlers: &[Handler], place: u32) -> Result<Vec<u32>, NoMemory>
+    ensures { IfOk result (λ v. v.items ≡ handlers_at handlers.now place) }
+{
+    let mut tos = Vec::new(alloc);
+    for handler in handlers {
+        let Ok(()) = push_handler(&mut tos, handler, place) else {
+            return Err(NoMemory);
+        };
+    }
+    Ok(tos)
+}
+
+// A handler, where its range has a place.
+fn push_handler(tos: &mut Vec<u32>, handler: &Handler, place: u32) -> Result<(), NoMemory>
+    ensures { OnOk result (tos.new.items ≡ tos.old.items ++ handlers_at (handler.now ∷ []) place) }
+{
+    if !covers(handler, place) {
+        return Ok(());
+    }
+    let Ok(()) = tos.push(handler.at) else {
+        return Err(NoMemory);
+    };
+    Ok(())
+}
+
+/// For each place below a size the places of the instructions that a handler there covers.
+pub fn caught_befores(
+    alloc: Global,
+    method: &Method,
+    size: usize,
+) -> Result<Vec<Seq<u32>>, NoMemory>
+    requires { Rising method.now.code }
+    ensures { IfOk result (λ rows. AreBefore (caught_tos method.now) method.now size rows.items) }
+{
+    let Ok(mut rows) = empty_rows(alloc, size) else {
+        return Err(NoMemory);
+    };
+    for at in 0..method.code.len() {
+        let entry = entry_of(method, at);
+        let handlers = method.handlers.as_slice();
+        let Ok(tos) = handlers_at(alloc, handlers, entry.0) else {
+            return Err(NoMemory);
+        };
+        let targets = tos.as_slice();
+        let Ok(()) = add_edges(&mut rows, entry.0, targets) else {
+            return Err(NoMemory);
+        };
+    }
+    Ok(rows)
+}
+
 /// For each place below a size the places of the instructions from which control goes there.
 pub fn befores(alloc: Global, method: &Method, size: usize) -> Result<Vec<Seq<u32>>, NoMemory>
     requires { Rising method.now.code }
-    ensures { IfOk result (λ rows. AreBefore method.now size rows.items) }
+    ensures { IfOk result (λ rows. AreBefore flow_tos method.now size rows.items) }
 {
     let Ok(mut rows) = empty_rows(alloc, size) else {
         return Err(NoMemory);

@@ -3,7 +3,7 @@
 ghost use Rattle.std.specs.Prelude.{◌≡◌, ◌<◌, ℕ, true, false, [], replicate, length, get_or, set, if◌then◌else◌, IfOk, OnOk};
 ghost use Rattle.kilim_program.specs.lookups.Places.{Rising};
 ghost use Rattle.kilim_type_spec.specs.Typed.{Among, reads, writes};
-ghost use Rattle.kilim_type_flow.specs.Marks.{AreBefore, EachBelow, Grown, IsColumn, Marks, Opens, ReadsMarked, is_marked};
+ghost use Rattle.kilim_type_flow.specs.Marks.{AreBefore, EachBelow, Grown, IsColumn, Marks, Opens, ReadsMarked, caught_tos, flow_tos, is_marked};
 
 use crate::before::{entry_of, number_at};
 use crate::slots::{slot_read, writes};
@@ -20,13 +20,13 @@ fn is_marked(marks: &[bool], place: u32) -> bool
     }
 }
 
-// So many places without a mark.
-fn free_places(alloc: Global, size: usize) -> Result<Vec<bool>, NoMemory>
-    ensures { IfOk result (λ marks. marks.items ≡ replicate size false) }
+// So many places with the same mark.
+fn marked_places(alloc: Global, size: usize, all: bool) -> Result<Vec<bool>, NoMemory>
+    ensures { IfOk result (λ marks. marks.items ≡ replicate size all) }
 {
     let mut marks = Vec::new(alloc);
     for _ in 0..size {
-        let Ok(()) = marks.push(false) else {
+        let Ok(()) = marks.push(all) else {
             return Err(NoMemory);
         };
     }
@@ -129,7 +129,7 @@ fn open_places(
     requires below { EachBelow size method.now.code }
     ensures { IfOk result (λ marks. Opens method.now local (length method.now.code) marks.items) }
 {
-    let Ok(mut marks) = free_places(alloc, size) else {
+    let Ok(mut marks) = marked_places(alloc, size, false) else {
         return Err(NoMemory);
     };
     for at in 0..method.code.len() {
@@ -182,6 +182,23 @@ fn spread(
     Ok(())
 }
 
+// Visits all of some places, which are open.
+fn spread_range(
+    range: &[u32],
+    everywhere: &[bool],
+    marks: &mut Vec<bool>,
+    work: &mut Vec<u32>,
+) -> Result<(), NoMemory>
+    requires { (x : ℕ) → Among range.now x → x < length marks.old.items }
+    ensures grown { OnOk result (Grown (λ x. Among range.now x × (is_marked everywhere.now x ≡ true)) marks.old.items work.old.items marks.new.items work.new.items) }
+    ensures all { OnOk result ((x : ℕ) → Among range.now x → is_marked everywhere.now x ≡ true → is_marked marks.new.items x ≡ true) }
+{
+    let Ok(()) = spread(range, everywhere, marks, work) else {
+        return Err(NoMemory);
+    };
+    Ok(())
+}
+
 fn row_at(rows: &[Seq<u32>], at: u32) -> &[u32]
     requires { at < length rows.now }
     ensures { result.now ≡ get_or rows.now at [] }
@@ -194,14 +211,17 @@ fn spread_all(
     method: &Method,
     local: u16,
     befores: &[Seq<u32>],
+    caught: &[Seq<u32>],
     passing: &[bool],
+    everywhere: &[bool],
     marks: &mut Vec<bool>,
     work: &mut Vec<u32>,
 ) -> Result<(), NoMemory>
-    requires rising { Rising method.now.code }
     requires below { EachBelow (length befores.now) method.now.code }
-    requires befores { AreBefore method.now (length befores.now) befores.now }
+    requires befores { AreBefore flow_tos method.now (length befores.now) befores.now }
+    requires caught { AreBefore (caught_tos method.now) method.now (length befores.now) caught.now }
     requires opens { Opens method.now local (length method.now.code) passing.now }
+    requires every { (x : ℕ) → x < length befores.now → is_marked everywhere.now x ≡ true }
     requires same { length marks.old.items ≡ length befores.now }
     requires marks { Marks method.now local marks.old.items work.old.items }
     requires reads { ReadsMarked method.now local (length method.now.code) marks.old.items }
@@ -210,6 +230,10 @@ fn spread_all(
     while let Some(place) = work.pop() {
         let row = row_at(befores, place);
         let Ok(()) = spread(row, passing, marks, work) else {
+            return Err(NoMemory);
+        };
+        let range = row_at(caught, place);
+        let Ok(()) = spread_range(range, everywhere, marks, work) else {
             return Err(NoMemory);
         };
     }
@@ -221,11 +245,13 @@ pub fn column(
     alloc: Global,
     method: &Method,
     befores: &[Seq<u32>],
+    caught: &[Seq<u32>],
     local: u16,
 ) -> Result<Vec<bool>, NoMemory>
     requires rising { Rising method.now.code }
     requires below { EachBelow (length befores.now) method.now.code }
-    requires befores { AreBefore method.now (length befores.now) befores.now }
+    requires befores { AreBefore flow_tos method.now (length befores.now) befores.now }
+    requires caught { AreBefore (caught_tos method.now) method.now (length befores.now) caught.now }
     ensures { IfOk result (λ marks. IsColumn method.now local marks.items) }
 {
     let Ok(opens) = open_places(alloc, method, befores.len(), local) else {
@@ -233,14 +259,20 @@ pub fn column(
     };
     let passing = opens.as_slice();
     let size = befores.len();
-    let Ok(mut marks) = free_places(alloc, size) else {
+    let Ok(all) = marked_places(alloc, size, true) else {
+        return Err(NoMemory);
+    };
+    let everywhere = all.as_slice();
+    let Ok(mut marks) = marked_places(alloc, size, false) else {
         return Err(NoMemory);
     };
     let mut work = Vec::new(alloc);
     let Ok(()) = start(method, local, &mut marks, &mut work) else {
         return Err(NoMemory);
     };
-    let Ok(()) = spread_all(method, local, befores, passing, &mut marks, &mut work) else {
+    let Ok(()) = spread_all(
+        method, local, befores, caught, passing, everywhere, &mut marks, &mut work,
+    ) else {
         return Err(NoMemory);
     };
     Ok(marks)

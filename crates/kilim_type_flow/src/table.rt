@@ -3,10 +3,10 @@
 ghost use Rattle.std.specs.Prelude.{◌≡◌, ◌⊎◌, ◌≤◌, ◌<◌, ◌^◌, ℕ, true, false, List, Bool, length, IfOk};
 ghost use Rattle.kilim_program.specs.lookups.Places.{Rising};
 ghost use Rattle.kilim_type_spec.specs.Typed.{IsLive, reads};
-ghost use Rattle.kilim_type_flow.specs.Marks.{AreBefore, AreColumns, EachBelow, EachReadBelow, IsColumn, NoneReads, ReadMarked, is_marked};
+ghost use Rattle.kilim_type_flow.specs.Marks.{AreBefore, AreColumns, EachBelow, EachReadBelow, IsColumn, NoneReads, ReadMarked, caught_tos, flow_tos, is_marked};
 ghost use Rattle.kilim_type_flow.specs.Table.{live_in};
 
-use crate::before::{befores, entry_of};
+use crate::before::{befores, caught_befores, entry_of};
 use crate::column::{column, mark};
 use crate::slots::slot_read;
 use kilim_program::{Instr, Method};
@@ -111,17 +111,19 @@ fn column_if(
     alloc: Global,
     method: &Method,
     befores: &[Seq<u32>],
+    caught: &[Seq<u32>],
     is_read: bool,
     local: u16,
 ) -> Result<Seq<bool>, NoMemory>
     requires rising { Rising method.now.code }
     requires below { EachBelow (length befores.now) method.now.code }
-    requires befores { AreBefore method.now (length befores.now) befores.now }
+    requires befores { AreBefore flow_tos method.now (length befores.now) befores.now }
+    requires caught { AreBefore (caught_tos method.now) method.now (length befores.now) caught.now }
     requires unread { is_read ≡ false → NoneReads method.now local }
     ensures { IfOk result (λ marks. IsColumn method.now local marks) }
 {
     if is_read {
-        let Ok(marks) = column(alloc, method, befores, local) else {
+        let Ok(marks) = column(alloc, method, befores, caught, local) else {
             return Err(NoMemory);
         };
         return Ok(Seq::from_vec(marks));
@@ -133,11 +135,13 @@ fn columns_of(
     alloc: Global,
     method: &Method,
     befores: &[Seq<u32>],
+    caught: &[Seq<u32>],
     read: &[bool],
 ) -> Result<Vec<Seq<bool>>, NoMemory>
     requires rising { Rising method.now.code }
     requires below { EachBelow (length befores.now) method.now.code }
-    requires befores { AreBefore method.now (length befores.now) befores.now }
+    requires befores { AreBefore flow_tos method.now (length befores.now) befores.now }
+    requires caught { AreBefore (caught_tos method.now) method.now (length befores.now) caught.now }
     requires marked { ReadMarked (length method.now.code) read.now method.now.code }
     requires small { length read.now ≤ 2 ^ 16 }
     ensures same { IfOk result (λ columns. length columns.items ≡ length read.now) }
@@ -146,7 +150,7 @@ fn columns_of(
     let mut columns = Vec::new(alloc);
     for local in 0..read.len() {
         let is_read = flag_at(read, local);
-        let Ok(column) = column_if(alloc, method, befores, is_read, local as u16) else {
+        let Ok(column) = column_if(alloc, method, befores, caught, is_read, local as u16) else {
             return Err(NoMemory);
         };
         let Ok(()) = columns.push(column) else {
@@ -156,8 +160,8 @@ fn columns_of(
     Ok(columns)
 }
 
-/// Which locals are live at each place of a method (after the flow edges of JVMS 4.10.1.6): those that some path from there reads
-/// before it writes them. Of each local that is read the time is linear in the instructions and edges.
+/// Which locals are live at each place of a method (after the flow edges of JVMS 4.10.1.6, and the edges to handlers): those that some
+/// path from there reads before it writes them. Of each local that is read the time is linear in the instructions and edges.
 pub fn live(alloc: Global, method: &Method) -> Result<LiveTable, NoMemory>
     requires { Rising method.now.code }
     ensures { IfOk result (λ table. IsLive method.now (live_in table)) }
@@ -167,12 +171,16 @@ pub fn live(alloc: Global, method: &Method) -> Result<LiveTable, NoMemory>
         return Err(NoMemory);
     };
     let before = rows.as_slice();
+    let Ok(ranges) = caught_befores(alloc, method, size) else {
+        return Err(NoMemory);
+    };
+    let caught = ranges.as_slice();
     let most = locals_below(method);
     let Ok(flags) = read_locals(alloc, method, most) else {
         return Err(NoMemory);
     };
     let read = flags.as_slice();
-    let Ok(columns) = columns_of(alloc, method, before, read) else {
+    let Ok(columns) = columns_of(alloc, method, before, caught, read) else {
         return Err(NoMemory);
     };
     Ok(LiveTable { columns })

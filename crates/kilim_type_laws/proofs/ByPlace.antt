@@ -9,7 +9,7 @@ use Rattle.kilim_program.specs.Program.{Program}
 use Rattle.kilim_program.specs.lookups.Places.{Above, Rising}
 use Rattle.kilim_program.proofs.lookups.Rising.{code_rises}
 use Rattle.kilim_type_spec.specs.Step.{Types, type_step}
-use Rattle.kilim_type_spec.specs.Typed.{Here, Typed, TypedBy, WellTyped, WellTypedBy, arriving, declared, entry, flows_on, frame_among, frames_from, frames_of, goes_on, left_by, no_types, typing_of}
+use Rattle.kilim_type_spec.specs.Typed.{AreHandled, Handles, HandlesBy, Here, Typed, TypedBy, WellTyped, WellTypedBy, arriving, declared, entry, flows_on, frame_among, frames_from, frames_of, goes_on, left_by, no_types, typing_of}
 use Rattle.kilim_type_laws.specs.Laws.{TypedByPlace, typing_in}
 
 -- ---- frames by place are those of a list, one for each instruction
@@ -71,12 +71,19 @@ module _ (p : Program) (m : Method) (typing : ℕ → Types) where
         by_place (goes_on (ends_path e.1) typed.2) es (subst (λ (o : Option Types). Agrees typing es (frames_from p m o es)) left agrees.1) typed.5,
       )
 
+  handled_by : (es : List (ℕ × Instr)) (fs : List Types) → Agrees typing es fs → Handles p m es fs → HandlesBy p m typing es
+  unfolding Agrees
+  handled_by [] fs agrees handled = tt
+  handled_by (e ∷ es) [] agrees handled = absurd agrees
+  handled_by (e ∷ es) (f ∷ fs) agrees handled = (subst (λ (z : Types). AreHandled p m e.0 z m.handlers) (sym agrees.0) handled.0, handled_by es fs agrees.1 handled.1)
+
 of_method : (p : Program) (m : Method) → Rising m.code → WellTyped p m → WellTypedBy p m (typing_of p m)
 unfolding typing_of
 of_method p m rising well = record {
   arguments = well.arguments;
   frames = well.frames;
   walk = by_place p m (frame_among m.code (frames_of p m)) (Some (entry m)) m.code (agrees m.code (frames_of p m) rising (one_each p m (Some (entry m)) m.code)) well.walk;
+  handled = handled_by p m (frame_among m.code (frames_of p m)) m.code (frames_of p m) (agrees m.code (frames_of p m) rising (one_each p m (Some (entry m)) m.code)) well.handled;
 }
 
 pub typed_by_place : TypedByPlace

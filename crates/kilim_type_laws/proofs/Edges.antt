@@ -1,7 +1,8 @@
 -- The walk through a well-typed method, by its flow edges.
-use Rattle.std.proofs.Common.{◌≡◌, inl, inr, ℕ, Bool, true, false, ◌||◌, cond, eqb, refl, ap, sym, ◌∙◌, subst, List, [], ◌∷◌, Option, Some, None, Ok}
+use Rattle.std.proofs.Common.{◌≡◌, inl, inr, ℕ, zero, suc, Bool, true, false, ◌||◌, cond, eqb, refl, ap, sym, ◌∙◌, subst, List, [], ◌∷◌, Option, Some, None, Ok, slice_get}
 use Rattle.std.specs.List.{list_all}
 use Rattle.std.proofs.lemmas.Bool.{and_parts, eqb-true, eq-eqb}
+use Rattle.kilim_program.specs.declared.class.Handler.{Handler}
 use Rattle.kilim_program.specs.declared.class.Method.{Method}
 use Rattle.kilim_program.specs.declared.instr.Instr.{Instr}
 use Rattle.kilim_program.specs.declared.verified.Frame.{Frame}
@@ -9,8 +10,8 @@ use Rattle.kilim_program.specs.Keeps.{Keeps}
 use Rattle.kilim_program.specs.Lengths.{ends_path, fetched, first_place, is_code_place, jump_targets}
 use Rattle.kilim_program.specs.Program.{Program}
 use Rattle.kilim_type_spec.specs.Step.{Types, type_step}
-use Rattle.kilim_type_spec.specs.Typed.{Among, FlowsInto, Here, Jumps, TypedBy, WellTypedBy, declared, edges, frame_fits, frame_in, frame_types, goes_on}
-use Rattle.kilim_type_laws.specs.Laws.{EdgesFlow}
+use Rattle.kilim_type_spec.specs.Typed.{Among, AreHandled, FlowsInto, HandlesBy, Here, IsCaught, IsHandled, caught_type, covers, Jumps, TypedBy, WellTypedBy, declared, edges, frame_fits, frame_in, frame_types, goes_on}
+use Rattle.kilim_type_laws.specs.Laws.{EdgesFlow, HandlersFlow}
 use Rattle.kilim_type_laws.proofs.Itself.{flows_itself}
 
 -- ---- places
@@ -102,6 +103,31 @@ module _ (p : Program) (keeps : Keeps p) (m : Method) (typing : ℕ → Types) w
         by_test true e a = jump_flows s.after (jump_targets i) q s.jumps a
         by_test false e (inl z) = subst (λ (x : ℕ). (is_code_place m.code x ≡ true) × FlowsInto p s.after (typing x)) z (s.on e)
         by_test false e (inr a) = jump_flows s.after (jump_targets i) q s.jumps a
+
+  -- ---- handlers
+
+  handled_there : (es : List (ℕ × Instr)) (end at next : ℕ) (i : Instr) → HandlesBy p m typing es → fetched es end at ≡ Some (i, next) → AreHandled p m at (typing at) m.handlers
+  handled_there [] end at next i h k = absurd (cc)
+  handled_there (e ∷ es) end at next i h k = by_test (eqb e.0 at) refl k (λ again. handled_there es end at next i h.1 again)
+    where
+      by_test : (b : Bool) → eqb e.0 at ≡ b → cond b (Some (e.1, first_place es end)) (fetched es end at) ≡ Some (i, next) → (fetched es end at ≡ Some (i, next) → AreHandled p m at (typing at) m.handlers) → AreHandled p m at (typing at) m.handlers
+      by_test true t k again = subst (λ (q : ℕ). AreHandled p m q (typing q) m.handlers) (eqb-true e.0 at t) h.0
+      by_test false t k again = again k
+
+  handled_one : (at : ℕ) (f : Types) (hs : List Handler) (n : ℕ) (h : Handler) → AreHandled p m at f hs → slice_get hs n ≡ Some h → IsHandled p m at f h
+  handled_one at f [] n h all there = absurd (cc)
+  handled_one at f (x ∷ hs) zero h all there = subst (λ (z : Handler). IsHandled p m at f z) (let same : x ≡ h = cc in same) all.0
+  handled_one at f (x ∷ hs) (suc n) h all there = handled_one at f hs n h all.1 there
+
+  pub caught_at : WellTypedBy p m typing → (at next n : ℕ) (i : Instr) (h : Handler) → fetched m.code m.code_length at ≡ Some (i, next) → slice_get m.handlers n ≡ Some h → covers h at ≡ true → IsCaught p m (typing at) h
+  caught_at well at next n i h is there covering = (handled_one at (typing at) m.handlers n h (handled_there m.code m.code_length at next i well.handled is) there).within covering
+
+pub handlers_flow : HandlersFlow
+handlers_flow p keeps m typing well at next n i h is there covering =
+    let c = caught_at p keeps m typing well at next n i h is there covering in
+    let place = declared_place p keeps m typing m.frames h.at c.frame well.frames c.there in
+    let same = typed_at p keeps m typing _ m.code h.at c.frame well.walk place c.there in
+    record { place = place; flows = subst (λ (z : Types). FlowsInto p (record (typing at) { stack = caught_type p h.catch ∷ [] }) z) (sym same) c.flows }
 
 pub edges_flow : EdgesFlow
 edges_flow p keeps m typing well at next to i is among =

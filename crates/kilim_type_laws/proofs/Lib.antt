@@ -1,8 +1,10 @@
 pub mod Itself
 pub mod Edges
 pub mod Tops
+pub mod Handlers
 pub mod Lives
 pub mod ByPlace
 pub mod Rooms
 pub mod Listed
 pub mod WithoutFault
+pub mod NoTable

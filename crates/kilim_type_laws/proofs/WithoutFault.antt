@@ -1,8 +1,9 @@
 -- A well-typed method has no type fault.
-use Rattle.std.proofs.Common.{◌≡◌, ℕ, suc, Bool, true, false, ◌||◌, ◌&&◌, not, refl, ap, sym, ◌∙◌, List, [], ◌∷◌, ◌++◌, Option, Some, None, Ok}
-use Rattle.std.specs.Prelude.{is_some, nat_le, slice_get, if◌then◌else◌}
+use Rattle.std.proofs.Common.{◌≡◌, ℕ, suc, Bool, true, false, ◌||◌, ◌&&◌, not, refl, ap, sym, ◌∙◌, subst, List, [], ◌∷◌, ◌++◌, Option, Some, None, Ok}
+use Rattle.std.specs.Prelude.{◌==◌, is_some, nat_le, slice_get, if◌then◌else◌, unwrap_or}
 use Rattle.std.specs.List.{list_all}
 use Rattle.std.proofs.lemmas.Bool.{and_parts}
+use Rattle.kilim_program.specs.declared.class.Handler.{Handler}
 use Rattle.kilim_program.specs.declared.class.Method.{Method}
 use Rattle.kilim_program.specs.declared.instr.Instr.{Instr}
 use Rattle.kilim_program.specs.declared.verified.Frame.{Frame}
@@ -12,8 +13,8 @@ use Rattle.kilim_program.specs.Lengths.{ends_path, jump_targets}
 use Rattle.kilim_program.specs.Program.{Program}
 use Rattle.kilim_program.specs.Same.{argument_slots}
 use Rattle.kilim_type_spec.specs.Step.{Types, peek, assignable, type_step}
-use Rattle.kilim_type_spec.specs.Typed.{FlowsInto, Here, Jumps, Typed, WellTyped, all_assignable, arriving, declared, entry, flows_on, frame_fits, goes_on, has_code, left_by}
-use Rattle.kilim_type_spec.specs.Faults.{lesser, fails_unless, locals_flow, flows_into, flows_into_declared, next_places, begins_declared, targets_declared, instr_rule, place_rule, fault_or, walk_fault, entry_rule, body_fault, frame_fault, earlier, method_fault, in_method, faults_from, first_type_fault}
+use Rattle.kilim_type_spec.specs.Typed.{AreHandled, FlowsInto, Handles, Here, IsHandled, Jumps, Typed, WellTyped, all_assignable, arriving, declared, entry, catch_fits, covers, flows_on, frame_fits, frames_from, goes_on, has_code, left_by, no_types}
+use Rattle.kilim_type_spec.specs.Faults.{caught_flows, handler_rule, rule_15, rule_16, lesser, fails_unless, locals_flow, flows_into, flows_into_declared, next_places, begins_declared, targets_declared, instr_rule, place_rule, fault_or, walk_fault, entry_rule, body_fault, frame_fault, earlier, method_fault, in_method, faults_from, first_type_fault}
 use Rattle.kilim_type_laws.specs.Laws.{NoFaultWhereWellTyped}
 
 and_from : (a b : Bool) → a ≡ true → b ≡ true → (a && b) ≡ true
@@ -71,29 +72,56 @@ arrives p (Some g) (Some d) f h = ap (λ (x : Types). Option.Some x) (sym h.0)
 arrives p (Some g) None f h = ap (λ (x : Types). Option.Some x) (sym h)
 arrives p None None f h = absurd h
 
+-- ---- handlers
+
+module _ (p : Program) (m : Method) (at : ℕ) (f : Types) where
+  rule_15_holds : (h : Handler) → IsHandled p m at f h → rule_15 p m at f h ≡ true
+  rule_15_holds h is = marked (covers h at) (caught_flows p f h (declared m h.at)) (λ c.
+      let w = is.within c in
+      ap (caught_flows p f h) w.there ∙ and_from (locals_flow p f.locals w.frame.locals) _ (locals_flows p f.locals w.frame.locals w.flows.locals) w.flows.stack)
+
+  rule_16_holds : (h : Handler) → IsHandled p m at f h → rule_16 p at f h ≡ true
+  rule_16_holds h is =
+      and_from (not (covers h at) || not f.unset) _ (marked (covers h at) (not f.unset) (λ c. ap not (is.within c).set)) (marked (h.start == at) (catch_fits p h.catch) is.begins)
+
+  all_15 : (hs : List Handler) → AreHandled p m at f hs → list_all (rule_15 p m at f) hs ≡ true
+  all_15 [] all = refl
+  all_15 (h ∷ hs) all = and_from (rule_15 p m at f h) _ (rule_15_holds h all.0) (all_15 hs all.1)
+
+  all_16 : (hs : List Handler) → AreHandled p m at f hs → list_all (rule_16 p at f) hs ≡ true
+  all_16 [] all = refl
+  all_16 (h ∷ hs) all = and_from (rule_16 p at f h) _ (rule_16_holds h all.0) (all_16 hs all.1)
+
+  handlers_pass : AreHandled p m at f m.handlers → handler_rule p m at f ≡ None
+  handlers_pass all =
+      ap (λ (b : Bool). lesser (fails_unless b 15) (fails_unless (list_all (rule_16 p at f) m.handlers) 16)) (all_15 m.handlers all)
+      ∙ ap (λ (b : Bool). lesser None (fails_unless b 16)) (all_16 m.handlers all)
+
 -- ---- an instruction
 
 module _ (p : Program) (m : Method) where
-  none_fails : (e : ℕ × Instr) (es : List (ℕ × Instr)) (f g : Types) → type_step p m e.0 e.1 f ≡ Ok g → Jumps p m g (jump_targets e.1) → Typed p m (goes_on (ends_path e.1) g) es → place_rule p m e es (Some f) ≡ None
-  none_fails e es f g step js typed =
+  none_fails : (e : ℕ × Instr) (es : List (ℕ × Instr)) (f g : Types) → type_step p m e.0 e.1 f ≡ Ok g → Jumps p m g (jump_targets e.1) → Typed p m (goes_on (ends_path e.1) g) es → AreHandled p m e.0 f m.handlers → place_rule p m e es (Some f) ≡ None
+  none_fails e es f g step js typed handled =
       let targets = and_from (list_all (λ to. is_some (declared m to)) (jump_targets e.1)) (not (ends_path e.1) || begins_declared m es) (jumps_declared p m g (jump_targets e.1) js) (next_declared p m g (ends_path e.1) es typed) in
       let flow = all_append (λ to. flows_into_declared p g (declared m to)) (jump_targets e.1) (next_places (ends_path e.1) es) (jumps_flow p m g (jump_targets e.1) js) (next_flows p m g (ends_path e.1) es typed) in
+      let instr : instr_rule p m e.1 es (type_step p m e.0 e.1 f) ≡ None =
       ap (instr_rule p m e.1 es) step
       ∙ ap (λ (b : Bool). lesser (fails_unless b 1) (lesser (fails_unless (targets_declared m e.1 es) 2) None)) flow
-      ∙ ap (λ (b : Bool). lesser None (lesser (fails_unless b 2) None)) targets
+      ∙ ap (λ (b : Bool). lesser None (lesser (fails_unless b 2) None)) targets in
+      ap (λ (o : Option ℕ). lesser o (handler_rule p m e.0 f)) instr ∙ handlers_pass p m e.0 f handled
 
-  walks : (pending : Option ℕ) (flow : Option Types) (es : List (ℕ × Instr)) → pending ≡ None → Typed p m flow es → walk_fault p m pending flow es ≡ None
-  walks pending flow [] none typed = refl
-  walks pending flow (e ∷ es) none typed =
+  walks : (pending : Option ℕ) (flow : Option Types) (es : List (ℕ × Instr)) → pending ≡ None → Typed p m flow es → Handles p m es (frames_from p m flow es) → walk_fault p m pending flow es ≡ None
+  walks pending flow [] none typed handled = refl
+  walks pending flow (e ∷ es) none typed handled =
       let f : Types = typed.0 in
       let g : Types = typed.2 in
       let arrived : arriving flow (declared m e.0) ≡ Some f = arrives p flow (declared m e.0) f typed.1 in
       let left : left_by p m e (arriving flow (declared m e.0)) ≡ goes_on (ends_path e.1) g = ap (left_by p m e) arrived ∙ ap (flows_on (ends_path e.1)) typed.3 in
-      let here : place_rule p m e es (arriving flow (declared m e.0)) ≡ None = ap (place_rule p m e es) arrived ∙ none_fails e es f g typed.3 typed.4 typed.5 in
+      let here : place_rule p m e es (arriving flow (declared m e.0)) ≡ None = ap (place_rule p m e es) arrived ∙ none_fails e es f g typed.3 typed.4 typed.5 (subst (λ (z : Types). AreHandled p m e.0 z m.handlers) (ap (λ (o : Option Types). unwrap_or o no_types) arrived) handled.0) in
       ap (λ (o : Option ℕ). fault_or e.0 (lesser o (place_rule p m e es (arriving flow (declared m e.0)))) (walk_fault p m None (left_by p m e (arriving flow (declared m e.0))) es)) none
       ∙ ap (λ (o : Option ℕ). fault_or e.0 o (walk_fault p m None (left_by p m e (arriving flow (declared m e.0))) es)) here
       ∙ ap (λ (o : Option Types). walk_fault p m None o es) left
-      ∙ walks None (goes_on (ends_path e.1) g) es refl typed.5
+      ∙ walks None (goes_on (ends_path e.1) g) es refl typed.5 (subst (λ (o : Option Types). Handles p m es (frames_from p m o es)) left handled.1)
 
   frames_pass : (fs : List (ℕ × Frame)) → list_all (frame_fits m) fs ≡ true → frame_fault m fs ≡ None
   frames_pass [] h = refl
@@ -104,16 +132,16 @@ module _ (p : Program) (m : Method) where
       ap (λ (b : Bool). lesser (fails_unless b 1) (fails_unless (nat_le (argument_slots m) m.max_locals) 6)) (here_flows p (entry m) typed.0 (declared m e.0) typed.1)
       ∙ ap (λ (b : Bool). fails_unless b 6) arguments
 
-  body_passes : (es : List (ℕ × Instr)) → nat_le (argument_slots m) m.max_locals ≡ true → Typed p m (Some (entry m)) es → body_fault p m es ≡ None
-  body_passes [] arguments typed = refl
-  body_passes (e ∷ es) arguments typed = walks (entry_rule p m e.0) (Some (entry m)) (e ∷ es) (entry_passes e es arguments typed) typed
+  body_passes : (es : List (ℕ × Instr)) → nat_le (argument_slots m) m.max_locals ≡ true → Typed p m (Some (entry m)) es → Handles p m es (frames_from p m (Some (entry m)) es) → body_fault p m es ≡ None
+  body_passes [] arguments typed handled = refl
+  body_passes (e ∷ es) arguments typed handled = walks (entry_rule p m e.0) (Some (entry m)) (e ∷ es) (entry_passes e es arguments typed) typed handled
 
   of_method : WellTyped p m → method_fault p m ≡ None
   unfolding method_fault
   of_method well = by (has_code m)
     where
       by : (b : Bool) → (if b then earlier (body_fault p m m.code) (frame_fault m m.frames) else None) ≡ None
-      by true = ap (λ o. earlier o (frame_fault m m.frames)) (body_passes m.code well.arguments well.walk) ∙ frames_pass m.frames well.frames
+      by true = ap (λ o. earlier o (frame_fault m m.frames)) (body_passes m.code well.arguments well.walk well.handled) ∙ frames_pass m.frames well.frames
       by false = refl
 
   no_code : has_code m ≡ false → method_fault p m ≡ None

@@ -1,5 +1,6 @@
 -- Laws of well-typed code, in the words of kilim_type_spec.
-use Rattle.std.specs.Prelude.{◌≡◌, ◌≤◌, ℕ, length, true, false, Option, Some, None, Ok}
+use Rattle.std.specs.Prelude.{◌≡◌, ◌≤◌, ℕ, length, true, false, [], ◌∷◌, Option, Some, None, Ok, slice_get}
+use Rattle.kilim_program.specs.declared.class.Handler.{Handler}
 use Rattle.kilim_program.specs.declared.class.Method.{Method}
 use Rattle.kilim_program.specs.declared.instr.Instr.{Instr}
 use Rattle.kilim_program.specs.declared.names.MethodId.{MethodId}
@@ -11,7 +12,7 @@ use Rattle.kilim_program.specs.Names.{method_at}
 use Rattle.kilim_program.specs.Program.{Program}
 use Rattle.kilim_type_spec.specs.Faults.{first_type_fault}
 use Rattle.kilim_type_spec.specs.Step.{Types, peek, is_top, assignable, type_step}
-use Rattle.kilim_type_spec.specs.Typed.{Among, FlowsInto, IsWellTyped, Live, WellTypedBy, edges, frame_types, has_code, listed, no_types, typing_of}
+use Rattle.kilim_type_spec.specs.Typed.{Among, FlowsInto, IsWellTyped, Live, WellTypedBy, caught_type, covers, edges, frame_types, has_code, listed, no_types, typing_of}
 
 -- ---- assignability
 
@@ -29,6 +30,16 @@ pub record Arrives (p : Program) (m : Method) (typing : ℕ → Types) (at : ℕ
 
 abbrev pub EdgesFlow : Type 0
 EdgesFlow = (p : Program) → Keeps p → (m : Method) (typing : ℕ → Types) → WellTypedBy p m typing → (at next to : ℕ) (i : Instr) → fetched m.code m.code_length at ≡ Some (i, next) → Among (edges i next) to → Arrives p m typing at i to
+
+-- The locals before an instruction in the range of a handler, with what it catches alone on the stack, are assignable to the frame at the
+-- handler, which is a place of the code.
+pub record Lands (p : Program) (m : Method) (typing : ℕ → Types) (at : ℕ) (h : Handler) : Type 0 where
+  pub place : is_code_place m.code h.at ≡ true
+  pub flows : FlowsInto p (record (typing at) { stack = caught_type p h.catch ∷ [] }) (typing h.at)
+
+abbrev pub HandlersFlow : Type 0
+HandlersFlow = (p : Program) → Keeps p → (m : Method) (typing : ℕ → Types) → WellTypedBy p m typing → (at next n : ℕ) (i : Instr) (h : Handler) → fetched m.code m.code_length at ≡ Some (i, next) → slice_get m.handlers n ≡ Some h → covers h at ≡ true →
+    Lands p m typing at h
 
 -- ---- live slots
 

@@ -3,7 +3,7 @@
 
 pub mod members;
 
-ghost use Rattle.kilim_type_laws.specs.Laws.{AssignsItself, EdgesFlow, ListedFramesShow, LiveIsTyped, NoFaultWhereWellTyped, TypedByPlace};
+ghost use Rattle.kilim_type_laws.specs.Laws.{AssignsItself, EdgesFlow, HandlersFlow, ListedFramesShow, LiveIsTyped, NoFaultWhereWellTyped, TypedByPlace};
 
 /// A law, and no work: each verification type is assignable to itself.
 pub fn assigns_itself()
@@ -14,6 +14,12 @@ pub fn assigns_itself()
 /// place that the edge reaches.
 pub fn edges_flow()
     ensures { EdgesFlow }
+{}
+
+/// A law, and no work: in a well-typed method the locals before an instruction in the range of a handler, with what it catches alone on
+/// the stack, are assignable to the frame at the handler.
+pub fn handlers_flow()
+    ensures { HandlersFlow }
 {}
 
 /// A law, and no work: a live local has a type.

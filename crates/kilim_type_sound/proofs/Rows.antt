@@ -26,7 +26,7 @@ use Rattle.kilim_type_sound.proofs.Slots.{set_there, set_other, set_length, stor
 
 -- the frame before an instruction
 pub record Before (p : Program) (m : Method) (of : Classes) (h : Objects) (live : ℕ → ℕ → Bool) (at next : ℕ) (f : Types) (ls vs : List Value) (i : Instr) : Type 0 where
-  pub wants : WantsAt live at next i
+  pub wants : WantsAt m.handlers live at next i
   pub locals : LocalsFit p m of (live at) f.locals ls
   pub stack : have_types p m of f.stack vs ≡ true
   pub there : AreThere h vs

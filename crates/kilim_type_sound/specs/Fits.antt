@@ -4,6 +4,7 @@ use Rattle.std.specs.Ordering.{int_eq}
 use Rattle.std.specs.FinMap.{get}
 use Rattle.std.specs.List.{list_all}
 use Rattle.kilim_program.specs.declared.class.Field.{Field}
+use Rattle.kilim_program.specs.declared.class.Handler.{Handler}
 use Rattle.kilim_program.specs.declared.class.Method.{Method}
 use Rattle.kilim_program.specs.declared.instr.Instr.{Instr}
 use Rattle.kilim_program.specs.declared.instr.Instr.TheVariants.{Newarray, Anewarray}
@@ -29,7 +30,7 @@ use Rattle.kilim_program.specs.Members.{named_type}
 use Rattle.kilim_program.specs.Fits.{fits_type, is_reference_base}
 use Rattle.kilim_program.specs.Lengths.{fetched, is_reference_type}
 use Rattle.kilim_type_spec.specs.Step.{Types, peek, is_top, assignable, vtype, made_at}
-use Rattle.kilim_type_spec.specs.Typed.{WellTypedBy, has_code, reads, writes, edges, Among}
+use Rattle.kilim_type_spec.specs.Typed.{WellTypedBy, has_code, reads, writes, edges, Among, handlers_at}
 
 -- Of which class or array type each object is, or was before it left the heap, by its name. No name is used twice.
 abbrev pub Classes : Type 0
@@ -210,9 +211,10 @@ AreThere h (v ∷ vs) = IsThere h v × AreThere h vs
 -- ---- the program
 
 -- a table of wanted locals: each that is read, and each that is wanted behind and isn't written
-pub record WantsAt (live : ℕ → ℕ → Bool) (at next : ℕ) (i : Instr) : Type 0 where
+pub record WantsAt (handlers : List Handler) (live : ℕ → ℕ → Bool) (at next : ℕ) (i : Instr) : Type 0 where
   pub read : (k : ℕ) → reads i k ≡ true → live at k ≡ true
   pub flow : (q k : ℕ) → Among (edges i next) q → live q k ≡ true → writes i k ≡ false → live at k ≡ true
+  pub caught : (q k : ℕ) → Among (handlers_at handlers at) q → live q k ≡ true → live at k ≡ true
 
 -- what a new array of references holds is a class or an array, and the class is there
 abbrev pub IsProper : Program → Instr → Type 0
@@ -225,5 +227,5 @@ IsProper p i = Unit {0}
 pub record Verified (p : Program) (typing : Typing) (live : Wanted) : Type 0 where
   pub typed : (id : MethodId) (m : Method) → method_at p id ≡ Some m → has_code m ≡ true → WellTypedBy p m (typing id)
   pub starts : (id : MethodId) (m : Method) → method_at p id ≡ Some m → has_code m ≡ true → (e : ℕ × Instr) × (es : List (ℕ × Instr)) × (m.code ≡ e ∷ es) × (e.0 ≡ 0)
-  pub wants : (id : MethodId) (m : Method) → method_at p id ≡ Some m → (at : ℕ) (found : Instr × ℕ) → fetched m.code m.code_length at ≡ Some found → WantsAt (live id) at found.1 found.0
+  pub wants : (id : MethodId) (m : Method) → method_at p id ≡ Some m → (at : ℕ) (found : Instr × ℕ) → fetched m.code m.code_length at ≡ Some found → WantsAt m.handlers (live id) at found.1 found.0
   pub proper : (id : MethodId) (m : Method) → method_at p id ≡ Some m → (at : ℕ) (found : Instr × ℕ) → fetched m.code m.code_length at ≡ Some found → IsProper p found.0

@@ -9,6 +9,7 @@ use Rattle.kilim_program.specs.declared.value.Value.{Value}
 use Rattle.kilim_program.specs.declared.value.Value.TheVariants.{Ref, Box}
 use Rattle.kilim_program.specs.BuiltIn.{class_type}
 use Rattle.kilim_type_spec.specs.Step.{vtype}
+use Rattle.kilim_program.specs.declared.class.Handler.{Handler}
 use Rattle.kilim_program.specs.declared.class.Method.{Method}
 use Rattle.kilim_program.specs.declared.instr.Instr.{Instr}
 use Rattle.kilim_program.specs.Program.{Program}
@@ -71,9 +72,9 @@ FactsHold = (p : Program) → Keeps p → Facts p
 -- A program whose methods with code are well typed by some frames of verification, and want what is read, is verified.
 abbrev pub AreVerified : Type 0
 AreVerified = (p : Program) (typing : Typing) (live : Wanted) → Keeps p → ((id : MethodId) (m : Method) → method_at p id ≡ Some m → has_code m ≡ true → WellTypedBy p m (typing id)) →
-    ((id : MethodId) (m : Method) → method_at p id ≡ Some m → (at : ℕ) (found : Instr × ℕ) → fetched m.code m.code_length at ≡ Some found → WantsAt (live id) at found.1 found.0) → Verified p typing live
+    ((id : MethodId) (m : Method) → method_at p id ≡ Some m → (at : ℕ) (found : Instr × ℕ) → fetched m.code m.code_length at ≡ Some found → WantsAt m.handlers (live id) at found.1 found.0) → Verified p typing live
 
 -- All locals may be wanted, or the live ones alone.
 pub record AreWanted : Type 0 where
-  pub all : (at next : ℕ) (i : Instr) → WantsAt (λ q k. true) at next i
-  pub live : (m : Method) (live : ℕ → ℕ → Bool) → IsLive m live → (at next : ℕ) (i : Instr) → fetched m.code m.code_length at ≡ Some (i, next) → WantsAt live at next i
+  pub all : (handlers : List Handler) (at next : ℕ) (i : Instr) → WantsAt handlers (λ q k. true) at next i
+  pub live : (m : Method) (live : ℕ → ℕ → Bool) → IsLive m live → (at next : ℕ) (i : Instr) → fetched m.code m.code_length at ≡ Some (i, next) → WantsAt m.handlers live at next i

@@ -1,8 +1,9 @@
 -- A method without a fault is well typed.
-use Rattle.std.proofs.Common.{◌≡◌, ℕ, zero, suc, ◌+◌, Bool, true, false, ◌||◌, ◌&&◌, not, cond, refl, ap, sym, ◌∙◌, List, [], ◌∷◌, ◌++◌, Option, Some, None, Result, Ok, Err}
-use Rattle.std.specs.Prelude.{is_some, nat_le}
+use Rattle.std.proofs.Common.{◌≡◌, ℕ, zero, suc, ◌+◌, Bool, true, false, ◌||◌, ◌&&◌, not, cond, refl, ap, sym, ◌∙◌, subst, ◌==◌, List, [], ◌∷◌, ◌++◌, Option, Some, None, Result, Ok, Err}
+use Rattle.std.specs.Prelude.{is_some, nat_le, unwrap_or}
 use Rattle.std.specs.List.{list_all}
 use Rattle.std.proofs.lemmas.Bool.{and_parts}
+use Rattle.kilim_program.specs.declared.class.Handler.{Handler}
 use Rattle.kilim_program.specs.declared.class.Method.{Method}
 use Rattle.kilim_program.specs.declared.instr.Instr.{Instr}
 use Rattle.kilim_program.specs.declared.verified.Frame.{Frame}
@@ -13,8 +14,8 @@ use Rattle.kilim_program.specs.Program.{Program}
 use Rattle.kilim_program.specs.Names.{is_empty}
 use Rattle.kilim_program.specs.Same.{argument_slots}
 use Rattle.kilim_type_spec.specs.Step.{Types, peek, assignable, type_step}
-use Rattle.kilim_type_spec.specs.Typed.{declared, frame_fits, all_assignable, FlowsInto, Jumps, Here, goes_on, Typed, entry, WellTyped, has_code, arriving, flows_on, left_by}
-use Rattle.kilim_type_spec.specs.Faults.{lesser, fails_unless, locals_flow, flows_into, flows_into_declared, next_places, flow_rule, begins_declared, targets_declared, rule_of, instr_rule, place_rule, fault_or, walk_fault, entry_rule, body_fault, frame_fault, comes_first, earlier, method_fault}
+use Rattle.kilim_type_spec.specs.Typed.{declared, frame_fits, all_assignable, FlowsInto, Jumps, Here, goes_on, Typed, entry, WellTyped, has_code, arriving, flows_on, left_by, no_types, frames_from, covers, caught_type, catch_fits, IsCaught, IsHandled, AreHandled, Handles}
+use Rattle.kilim_type_spec.specs.Faults.{lesser, fails_unless, locals_flow, flows_into, flows_into_declared, next_places, flow_rule, begins_declared, targets_declared, rule_of, instr_rule, place_rule, fault_or, walk_fault, entry_rule, body_fault, frame_fault, comes_first, earlier, method_fault, caught_flows, rule_15, rule_16, handler_rule}
 use Rattle.kilim_type_spec.specs.Laws.{NoFaultIsWellTyped}
 
 -- ---- rules that don't fail
@@ -89,6 +90,38 @@ all_parts test (x ∷ xs) ys e =
     let b = all_parts test xs ys a.1 in
     (ap (λ t. t && list_all test xs) a.0 ∙ b.0, b.1)
 
+-- ---- handlers
+
+not_set : (b : Bool) → not b ≡ true → b ≡ false
+not_set true e = absurd (cc)
+not_set false e = refl
+
+caught_frame : (p : Program) (m : Method) (f : Types) (h : Handler) (o : Option Types) → declared m h.at ≡ o → caught_flows p f h o ≡ true → f.unset ≡ false → IsCaught p m f h
+caught_frame p m f h None is e set = absurd (cc)
+caught_frame p m f h (Some d) is e set =
+    let parts = and_parts (locals_flow p f.locals d.locals) (all_assignable p (caught_type p h.catch ∷ []) d.stack) e in
+    record { frame = d; there = is; flows = record { locals = slots_flow p f.locals d.locals parts.0; stack = parts.1; unset = λ marked. absurd (let x = sym set ∙ marked in cc) }; set = set }
+
+one_handled : (p : Program) (m : Method) (at : ℕ) (f : Types) (h : Handler) → rule_15 p m at f h ≡ true → rule_16 p at f h ≡ true → IsHandled p m at f h
+one_handled p m at f h caught set =
+    let two = and_parts (not (covers h at) || not f.unset) (not (h.start == at) || catch_fits p h.catch) set in
+    record {
+      within = λ c. caught_frame p m f h (declared m h.at) refl (unset_kept (covers h at) (caught_flows p f h (declared m h.at)) caught c) (not_set f.unset (unset_kept (covers h at) (not f.unset) two.0 c));
+      begins = unset_kept (h.start == at) (catch_fits p h.catch) two.1;
+    }
+
+all_handled : (p : Program) (m : Method) (at : ℕ) (f : Types) (hs : List Handler) → list_all (rule_15 p m at f) hs ≡ true → list_all (rule_16 p at f) hs ≡ true → AreHandled p m at f hs
+all_handled p m at f [] a b = tt
+all_handled p m at f (h ∷ hs) a b =
+    let one = and_parts (rule_15 p m at f h) (list_all (rule_15 p m at f) hs) a in
+    let two = and_parts (rule_16 p at f h) (list_all (rule_16 p at f) hs) b in
+    (one_handled p m at f h one.0 two.0, all_handled p m at f hs one.1 two.1)
+
+handled : (p : Program) (m : Method) (at : ℕ) (f : Types) → handler_rule p m at f ≡ None → AreHandled p m at f m.handlers
+handled p m at f none =
+    let both = lesser_none (fails_unless (list_all (rule_15 p m at f) m.handlers) 15) (fails_unless (list_all (rule_16 p at f) m.handlers) 16) none in
+    all_handled p m at f m.handlers (unless_none (list_all (rule_15 p m at f) m.handlers) 15 both.0) (unless_none (list_all (rule_16 p at f) m.handlers) 16 both.1)
+
 -- ---- the walk
 
 -- what flows to the next place may stand there
@@ -145,19 +178,21 @@ pub record Passes (p : Program) (m : Method) (e : ℕ × Instr) (es : List (ℕ 
   pub jump : Jumps p m after (jump_targets e.1)
   pub next : list_all (λ to. flows_into_declared p after (declared m to)) (next_places (ends_path e.1) es) ≡ true
   pub behind : (not (ends_path e.1) || begins_declared m es) ≡ true
+  pub handled : AreHandled p m e.0 f m.handlers
 
 passes : (p : Program) (m : Method) (e : ℕ × Instr) (es : List (ℕ × Instr)) (f : Types) → place_rule p m e es (Some f) ≡ None → Passes p m e es f
-passes p m e es f none =
+passes p m e es f fails =
     let r : Result Types ℕ = type_step p m e.0 e.1 f in
+    let first = lesser_none (instr_rule p m e.1 es r) (handler_rule p m e.0 f) fails in
     let tos : List ℕ = jump_targets e.1 ++ next_places (ends_path e.1) es in
-    let one = lesser_none (flow_rule p m tos r) (lesser (fails_unless (targets_declared m e.1 es) 2) (rule_of r)) none in
+    let one = lesser_none (flow_rule p m tos r) (lesser (fails_unless (targets_declared m e.1 es) 2) (rule_of r)) first.0 in
     let two = lesser_none (fails_unless (targets_declared m e.1 es) 2) (rule_of r) one.1 in
     let made = result_ok r two.1 in
     let all : list_all (λ to. flows_into_declared p made.0 (declared m to)) tos ≡ true =
     unless_none (list_all (λ to. flows_into_declared p made.0 (declared m to)) tos) 1 (sym (ap (flow_rule p m tos) made.1) ∙ one.0) in
     let parts = all_parts (λ to. flows_into_declared p made.0 (declared m to)) (jump_targets e.1) (next_places (ends_path e.1) es) all in
     let there = and_parts (list_all (λ to. is_some (declared m to)) (jump_targets e.1)) (not (ends_path e.1) || begins_declared m es) (unless_none (targets_declared m e.1 es) 2 two.0) in
-    record { after = made.0; steps = made.1; jump = jumps p m made.0 (jump_targets e.1) there.0 parts.0; next = parts.1; behind = there.1 }
+    record { after = made.0; steps = made.1; jump = jumps p m made.0 (jump_targets e.1) there.0 parts.0; next = parts.1; behind = there.1; handled = handled p m e.0 f first.1 }
 
 left_is : (p : Program) (m : Method) (e : ℕ × Instr) (f g : Types) (o : Option Types) → o ≡ Some f → type_step p m e.0 e.1 f ≡ Ok g → left_by p m e o ≡ goes_on (ends_path e.1) g
 left_is p m e f g o is s = ap (left_by p m e) is ∙ ap (flows_on (ends_path e.1)) s
@@ -179,6 +214,21 @@ typed_from p m pending flow (e ∷ es) c r w =
       typed_from p m None (goes_on (ends_path e.1) done.after) es (rest_ends e es c) (ready_behind p m done.after e es c done.next done.behind) (sym (ap (λ g. walk_fault p m None g es) left) ∙ parts.1),
     )
 
+-- the same, of handlers
+handled_from : (p : Program) (m : Method) (pending : Option ℕ) (flow : Option Types) (es : List (ℕ × Instr)) → code_ends es ≡ true → Ready p m flow es → walk_fault p m pending flow es ≡ None → Handles p m es (frames_from p m flow es)
+handled_from p m pending flow [] c r w = tt
+handled_from p m pending flow (e ∷ es) c r w =
+    let o : Option Types = arriving flow (declared m e.0) in
+    let here = stands p flow (declared m e.0) r in
+    let parts = fault_none e.0 (lesser pending (place_rule p m e es o)) (walk_fault p m None (left_by p m e o) es) w in
+    let rule : place_rule p m e es (Some here.0) ≡ None = sym (ap (place_rule p m e es) here.1) ∙ (lesser_none pending (place_rule p m e es o) parts.0).1 in
+    let done = passes p m e es here.0 rule in
+    let left : left_by p m e o ≡ goes_on (ends_path e.1) done.after = left_is p m e here.0 done.after o here.1 done.steps in (
+      subst (λ (f : Types). AreHandled p m e.0 f m.handlers) (sym (ap (λ (x : Option Types). unwrap_or x no_types) here.1)) done.handled,
+      subst (λ (g : Option Types). Handles p m es (frames_from p m g es)) (sym left)
+          (handled_from p m None (goes_on (ends_path e.1) done.after) es (rest_ends e es c) (ready_behind p m done.after e es c done.next done.behind) (sym (ap (λ g. walk_fault p m None g es) left) ∙ parts.1)),
+    )
+
 frames_fit : (m : Method) (fs : List (ℕ × Frame)) → frame_fault m fs ≡ None → list_all (frame_fits m) fs ≡ true
 frames_fit m [] e = refl
 frames_fit m (f ∷ fs) e = by (frame_fits m f) (λ (x : frame_fault m fs ≡ None). frames_fit m fs x) refl
@@ -191,6 +241,7 @@ frames_fit m (f ∷ fs) e = by (frame_fits m f) (λ (x : frame_fault m fs ≡ No
 pub record BodyPasses (p : Program) (m : Method) (es : List (ℕ × Instr)) : Type 0 where
   pub arguments : nat_le (argument_slots m) m.max_locals ≡ true
   pub walk : Typed p m (Some (entry m)) es
+  pub handled : Handles p m es (frames_from p m (Some (entry m)) es)
 
 body_passes : (p : Program) (m : Method) (e : ℕ × Instr) (es : List (ℕ × Instr)) → code_ends (e ∷ es) ≡ true → body_fault p m (e ∷ es) ≡ None → BodyPasses p m (e ∷ es)
 body_passes p m e es c w =
@@ -201,6 +252,7 @@ body_passes p m e es c w =
     record {
       arguments = unless_none (nat_le (argument_slots m) m.max_locals) 6 both.1;
       walk = typed_from p m (entry_rule p m e.0) (Some (entry m)) (e ∷ es) c (may_stand p (entry m) (declared m e.0) (unless_none (flows_into_declared p (entry m) (declared m e.0)) 1 both.0)) w;
+      handled = handled_from p m (entry_rule p m e.0) (Some (entry m)) (e ∷ es) c (may_stand p (entry m) (declared m e.0) (unless_none (flows_into_declared p (entry m) (declared m e.0)) 1 both.0)) w;
     }
 
 body_of : (p : Program) (m : Method) (es : List (ℕ × Instr)) → not (is_empty es) ≡ true → code_ends es ≡ true → body_fault p m es ≡ None → BodyPasses p m es
@@ -212,4 +264,4 @@ unfolding method_fault
 no_fault_is_well_typed p m code c none =
     let both = earlier_none (body_fault p m m.code) (frame_fault m m.frames) (sym (ap (λ b. cond b (earlier (body_fault p m m.code) (frame_fault m m.frames)) None) code) ∙ none) in
     let body = body_of p m m.code code c both.0 in
-    record { arguments = body.arguments; frames = frames_fit m m.frames both.1; walk = body.walk }
+    record { arguments = body.arguments; frames = frames_fit m m.frames both.1; walk = body.walk; handled = body.handled }

@@ -1,19 +1,22 @@
 -- Examples, computed: which types are assignable, what single instructions make of types, and the first faults of small methods. Each
 -- rule stands beside a near miss that passes.
-use Rattle.std.specs.Prelude.{◌≡◌, ℕ, Bool, true, false, pos, List, [], ◌∷◌, Option, Some, None, Result, Ok, map}
+use Rattle.std.specs.Prelude.{◌≡◌, ℕ, suc, Bool, true, false, pos, List, [], ◌∷◌, ◌++◌, Option, Some, None, Result, Ok, codes, length, map}
+use Rattle.kilim_program.specs.declared.class.Handler.{Handler}
 use Rattle.kilim_program.specs.declared.class.Method.{Method}
 use Rattle.kilim_program.specs.declared.instr.Instr.{Instr}
 use Rattle.kilim_program.specs.declared.instr.Instr.TheVariants.{Nop, Iconst, Lconst, Ldc, Ldc2W, Iload, Lload, Aload, Istore, Lstore, Astore, Iaload, Aaload, Aastore, Pop, Pop2, Dup, DupX1, DupX2, Dup2, Swap, Iadd, Ladd, Lshl, Iinc, I2l, IfAcmpeq, Ifeq, Goto, Ireturn, Areturn, Return, Getfield, Putfield, Getstatic, Invokevirtual, Invokespecial, Invokestatic, New, Anewarray, Checkcast, Ifnull}
+use Rattle.kilim_program.specs.declared.names.ClassId.{ClassId}
 use Rattle.kilim_program.specs.declared.ty.Base.TheVariants as base
 use Rattle.kilim_program.specs.declared.value.Value.TheVariants.{Int as IntValue, Long as LongValue, Text}
 use Rattle.kilim_program.specs.declared.verified.Frame.{Frame}
 use Rattle.kilim_program.specs.declared.verified.VType.{VType}
 use Rattle.kilim_program.specs.declared.verified.VType.TheVariants.{Top, Int, Long, Null, UninitThis, Uninit}
+use Rattle.kilim_program.specs.Program.{Program}
 use Rattle.kilim_program.specs.BuiltIn.{class_id, class_type, method_id}
 use Rattle.kilim_type_spec.specs.Step.{Types, assignable, type_step}
-use Rattle.kilim_type_spec.specs.Typed.{listed, frames_of}
+use Rattle.kilim_type_spec.specs.Typed.{Live, listed, frames_of}
 use Rattle.kilim_type_spec.specs.Faults.{rule_of, method_fault}
-use Rattle.kilim_type_spec.specs.Samples.{m_class, n_class, p_class, q_class, object_class, string_class, message_class, sample, of_class, array, classes_array, with_code}
+use Rattle.kilim_type_spec.specs.Samples.{own_methods, sample_class, m_class, n_class, p_class, q_class, object_class, string_class, message_class, sample, of_class, array, classes_array, with_code}
 
 -- ---- assignability
 
@@ -137,6 +140,40 @@ loop = (0, Iconst (pos 0)) ∷ (1, Istore 1) ∷ (2, Iload 1) ∷ (3, Ifeq 2) �
 abbrev pub loop_with : List (ℕ × Frame) → Option (ℕ × ℕ)
 loop_with frames = method_fault sample (with_code loop 7 frames)
 
+-- ---- exception tables
+
+-- `sample` with the class of what can be thrown, and one below it
+abbrev pub throwable_class : ℕ
+throwable_class = length sample.classes
+
+abbrev pub error_class : ℕ
+error_class = suc throwable_class
+
+abbrev pub throwing : Program
+throwing = record sample { classes = sample.classes ++ sample_class (codes "java/lang/Throwable") object_class false false [] ∷ sample_class (codes "E") throwable_class false false [] ∷ [] }
+
+-- local 1 is set from place 2 on; a handler begins at place 3
+abbrev pub guarded : List (ℕ × Instr)
+guarded = (0, Iconst (pos 0)) ∷ (1, Istore 1) ∷ (2, Return) ∷ (3, Pop) ∷ (4, Return) ∷ []
+
+-- in a constructor, `this` is set from place 4 on; a handler begins at place 5
+abbrev pub guarded_making : List (ℕ × Instr)
+guarded_making = (0, Aload 0) ∷ (1, Invokespecial (method_id (length own_methods))) ∷ (4, Return) ∷ (5, Pop) ∷ (6, Return) ∷ []
+
+abbrev pub over : ℕ → ℕ → ℕ → Option ClassId → Handler
+over start end at catch = record { start = start; end = end; at = at; catch = catch }
+
+-- with the frame at place 3
+abbrev pub guarded_by : Handler → List VType → VType → Option (ℕ × ℕ)
+guarded_by h locals caught = method_fault throwing (record (with_code guarded 5 ((3, framed locals (caught ∷ [])) ∷ [])) { handlers = h ∷ [] })
+
+abbrev pub made_by : Handler → Option (ℕ × ℕ)
+made_by h = method_fault throwing (record (with_code guarded_making 7 ((5, framed [] (of_class throwable_class ∷ [])) ∷ [])) { name = codes "<init>"; handlers = h ∷ [] })
+
+-- place 0 sets local 1, which the handler at place 2 reads
+abbrev pub storing : List Handler → Method
+storing hs = record (with_code ((0, Istore 1) ∷ (1, Return) ∷ (2, Pop) ∷ (3, Iload 1) ∷ (4, Ireturn) ∷ []) 5 []) { handlers = hs }
+
 pub record ExamplesHold : Type 0 where
   pub assigned_all : map assigns assigned ≡ map (λ pair. true) assigned
   pub assigned_none : map assigns not_assigned ≡ map (λ pair. false) not_assigned
@@ -163,3 +200,17 @@ pub record ExamplesHold : Type 0 where
   pub least : method_fault sample (with_code ((0, Iadd) ∷ (1, Goto 0) ∷ []) 4 ((1, framed [] (Top ∷ [])) ∷ [])) ≡ Some (0, 3)
   pub pushes_nothing : method_fault sample (with_code ((0, Return) ∷ (1, Nop) ∷ (2, Return) ∷ []) 3 ((1, framed [] (Int ∷ Int ∷ Int ∷ Int ∷ Int ∷ [])) ∷ [])) ≡ Some (1, 12)
   pub frames : map (listed (with_code loop 7 [])) (frames_of sample (with_code ((0, Iconst (pos 0)) ∷ (1, Return) ∷ []) 2 [])) ≡ framed (this ∷ Top ∷ Top ∷ []) [] ∷ framed (this ∷ Top ∷ Top ∷ []) (Int ∷ []) ∷ []
+  pub caught : guarded_by (over 0 3 3 None) (this ∷ []) (of_class throwable_class) ≡ None
+  pub caught_below : guarded_by (over 0 3 3 (Some (class_id error_class))) (this ∷ []) (of_class error_class) ≡ None
+  pub caught_above : guarded_by (over 0 3 3 (Some (class_id error_class))) (this ∷ []) (of_class throwable_class) ≡ None
+  pub not_narrowed : guarded_by (over 0 3 3 None) (this ∷ []) (of_class error_class) ≡ Some (0, 15)
+  pub no_handler_frame : guarded_by (over 0 3 4 None) (this ∷ []) (of_class throwable_class) ≡ Some (0, 15)
+  pub set_in_range : guarded_by (over 2 3 3 None) (this ∷ Int ∷ []) (of_class throwable_class) ≡ None
+  pub not_yet_set : guarded_by (over 1 3 3 None) (this ∷ Int ∷ []) (of_class throwable_class) ≡ Some (1, 15)
+  pub not_thrown : guarded_by (over 0 3 3 (Some (class_id p_class))) (this ∷ []) (of_class p_class) ≡ Some (0, 16)
+  pub least_of_two : guarded_by (over 0 3 3 (Some (class_id p_class))) (this ∷ []) (of_class throwable_class) ≡ Some (0, 15)
+  pub this_is_set : made_by (over 4 5 5 None) ≡ None
+  pub this_is_unset : made_by (over 1 5 5 None) ≡ Some (1, 16)
+  -- where an instruction in the range of a handler sets a local that the handler reads, the old value is read, too
+  pub live_in_range : Live (storing (over 0 1 2 None ∷ [])) 1 0
+  pub dead_before_it : Live (storing (over 1 2 2 None ∷ [])) 1 0 → ⊥

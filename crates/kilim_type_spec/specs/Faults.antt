@@ -4,10 +4,13 @@
 --   6 at place 0, too: an argument slot is at or past max_locals
 --   12 a declared frame doesn't fit its method
 --   3 to 11, 13, 14: an instruction under the frame at its place (Step.antt)
+--   15 a handler in whose range the instruction stands has no frame, or what is caught there doesn't flow into it
+--   16 `this` isn't initialized in the range of a handler, or what a handler catches, which fails where its range begins, can't be thrown
 -- Rules 1 and 2 fail at the instruction from which the flow comes, rule 1 at place 0 for the flow from the method's entry,
 -- rule 12 at the frame's place. An instruction with a fault leaves no frame; so rule 1 isn't asked of its flow.
 use Rattle.std.specs.Prelude.{ℕ, suc, Result, Ok, Err, Bool, true, false, ◌||◌, ◌&&◌, not, ◌==◌, nat_lt, nat_le, if◌then◌else◌, List, [], ◌∷◌, ◌++◌, Option, Some, None, is_some}
 use Rattle.std.specs.List.{list_all}
+use Rattle.kilim_program.specs.declared.class.Handler.{Handler}
 use Rattle.kilim_program.specs.declared.class.Method.{Method}
 use Rattle.kilim_program.specs.declared.instr.Instr.{Instr}
 use Rattle.kilim_program.specs.declared.names.MethodId.{MethodId}
@@ -18,7 +21,7 @@ use Rattle.kilim_program.specs.Lengths.{jump_targets, ends_path}
 use Rattle.kilim_program.specs.Program.{Program}
 use Rattle.kilim_program.specs.Same.{argument_slots}
 use Rattle.kilim_type_spec.specs.Step.{Types, assignable, type_step}
-use Rattle.kilim_type_spec.specs.Typed.{declared, frame_fits, all_assignable, entry, has_code, arriving, left_by}
+use Rattle.kilim_type_spec.specs.Typed.{declared, frame_fits, all_assignable, entry, has_code, arriving, left_by, covers, caught_type, catch_fits}
 
 -- the lesser of two rules, where there are two
 abbrev pub lesser : Option ℕ → Option ℕ → Option ℕ
@@ -76,10 +79,27 @@ abbrev pub instr_rule : Program → Method → Instr → List (ℕ × Instr) →
 instr_rule p m i es r =
     lesser (flow_rule p m (jump_targets i ++ next_places (ends_path i) es) r) (lesser (fails_unless (targets_declared m i es) 2) (rule_of r))
 
+-- ---- exception tables
+
+-- rule 15, of an entry whose range has an instruction: what is caught there, alone on the stack, flows into the frame at the handler
+abbrev pub caught_flows : Program → Types → Handler → Option Types → Bool
+caught_flows p f h None = false
+caught_flows p f h (Some d) = locals_flow p f.locals d.locals && all_assignable p (caught_type p h.catch ∷ []) d.stack
+
+abbrev pub rule_15 : Program → Method → (at : ℕ) → Types → Handler → Bool
+rule_15 p m at f h = not (covers h at) || caught_flows p f h (declared m h.at)
+
+-- rule 16: `this` is initialized in the range, and at its beginning what is caught can be thrown
+abbrev pub rule_16 : Program → (at : ℕ) → Types → Handler → Bool
+rule_16 p at f h = (not (covers h at) || not f.unset) && (not (h.start == at) || catch_fits p h.catch)
+
+abbrev pub handler_rule : Program → Method → (at : ℕ) → Types → Option ℕ
+handler_rule p m at f = lesser (fails_unless (list_all (rule_15 p m at f) m.handlers) 15) (fails_unless (list_all (rule_16 p at f) m.handlers) 16)
+
 -- where an instruction before it has a fault, there may be no frame
 abbrev pub place_rule : Program → Method → ℕ × Instr → List (ℕ × Instr) → Option Types → Option ℕ
 place_rule p m e es None = fails_unless (targets_declared m e.1 es) 2
-place_rule p m e es (Some f) = instr_rule p m e.1 es (type_step p m e.0 e.1 f)
+place_rule p m e es (Some f) = lesser (instr_rule p m e.1 es (type_step p m e.0 e.1 f)) (handler_rule p m e.0 f)
 
 abbrev pub fault_or : ℕ → Option ℕ → Option (ℕ × ℕ) → Option (ℕ × ℕ)
 fault_or at None behind = behind

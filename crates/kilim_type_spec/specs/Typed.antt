@@ -1,10 +1,12 @@
 -- Well-typed methods (JVMS 4.10.1): the walk through the code in order, with the declared frames alone where flows meet; and
 -- live slots.
-use Rattle.std.specs.Prelude.{◌≡◌, ◌⊎◌, ℕ, zero, suc, Result, Ok, Err, Bool, true, false, ◌||◌, ◌&&◌, not, ◌==◌, nat_lt, nat_le, if◌then◌else◌, List, [], ◌∷◌, ◌++◌, Option, Some, None, is_some, unwrap_or, length, map, reverse}
+use Rattle.std.specs.Prelude.{◌≡◌, ◌⊎◌, ℕ, zero, suc, Result, Ok, Err, Bool, true, false, ◌||◌, ◌&&◌, not, ◌==◌, nat_lt, nat_le, if◌then◌else◌, List, [], ◌∷◌, ◌++◌, Option, Some, None, is_some, unwrap_or, length, map, reverse, codes}
 use Rattle.std.specs.List.{list_all, list_any}
+use Rattle.kilim_program.specs.declared.class.Handler.{Handler}
 use Rattle.kilim_program.specs.declared.class.Method.{Method}
 use Rattle.kilim_program.specs.declared.instr.Instr.{Instr}
 use Rattle.kilim_program.specs.declared.instr.Instr.TheVariants.{Iload, Lload, Aload, Istore, Lstore, Astore, Iinc}
+use Rattle.kilim_program.specs.declared.names.ClassId.{ClassId}
 use Rattle.kilim_program.specs.declared.names.MethodId.{MethodId}
 use Rattle.kilim_program.specs.declared.ty.Ty.{Ty}
 use Rattle.kilim_program.specs.declared.verified.Frame.{Frame}
@@ -12,9 +14,10 @@ use Rattle.kilim_program.specs.declared.verified.VType.{VType}
 use Rattle.kilim_program.specs.declared.verified.VType.TheVariants.{Top, Long, UninitThis, Uninit, Object}
 use Rattle.kilim_program.specs.Program.{Program}
 use Rattle.kilim_program.specs.Lengths.{jump_targets, ends_path, is_code_place, fetched}
-use Rattle.kilim_program.specs.Names.{method_at, is_empty}
+use Rattle.kilim_program.specs.Fits.{is_named}
+use Rattle.kilim_program.specs.Names.{line_of, method_at, is_empty}
 use Rattle.kilim_program.specs.Same.{is_constructor, argument_slots}
-use Rattle.kilim_type_spec.specs.Step.{Types, peek, is_top, is_long, is_unset_this, is_object, words, assignable, vtype, class_vtype, made_at, type_step}
+use Rattle.kilim_type_spec.specs.Step.{Types, peek, is_top, is_long, is_unset_this, is_object, words, assignable, vtype, class_vtype, made_at, throwable_type, type_step}
 
 -- ---- declared frames
 
@@ -111,25 +114,6 @@ param_slots (ty ∷ tys) = slots_of_type (vtype ty) (param_slots tys)
 abbrev pub entry : Method → Types
 entry m = record { locals = this_types m ++ param_slots m.params; stack = []; unset = not m.is_static && is_constructor m }
 
-pub record WellTyped (p : Program) (m : Method) : Type 0 where
-  pub arguments : nat_le (argument_slots m) m.max_locals ≡ true
-  pub frames : list_all (frame_fits m) m.frames ≡ true
-  pub walk : Typed p m (Some (entry m)) m.code
-
-pub record WellTypedBy (p : Program) (m : Method) (typing : ℕ → Types) : Type 0 where
-  pub arguments : nat_le (argument_slots m) m.max_locals ≡ true
-  pub frames : list_all (frame_fits m) m.frames ≡ true
-  pub walk : TypedBy p m typing (Some (entry m)) m.code
-
--- ---- a program
-
-abbrev pub has_code : Method → Bool
-has_code m = not (is_empty m.code)
-
--- each method with code is well typed
-pub record IsWellTyped (p : Program) : Type 0 where
-  pub methods : (id : MethodId) (m : Method) → method_at p id ≡ Some m → has_code m ≡ true → WellTyped p m
-
 -- ---- the frame at each place, in code order
 
 -- at a place: the frame declared there, or else what flows there
@@ -166,6 +150,82 @@ frame_among (e ∷ es) (f ∷ fs) at = if e.0 == at then f else frame_among es f
 -- the frame at a place of a well-typed method
 unfoldable pub typing_of : Program → Method → ℕ → Types
 typing_of p m at = frame_among m.code (frames_of p m) at
+
+-- ---- exception tables (JVMS 4.7.3, 4.10.1.6)
+
+-- the range of an entry has the place
+abbrev pub covers : Handler → ℕ → Bool
+covers h at = nat_le h.start at && nat_lt at h.end
+
+-- the places of the handlers whose ranges have a place, in order
+abbrev pub handlers_at : List Handler → (at : ℕ) → List ℕ
+handlers_at [] at = []
+handlers_at (h ∷ hs) at = if covers h at then h.at ∷ handlers_at hs at else handlers_at hs at
+
+-- what an entry catches: everything that can be thrown, where it names no class
+abbrev pub caught_type : Program → Option ClassId → VType
+caught_type p None = throwable_type p
+caught_type p (Some c) = class_vtype c
+
+-- `java/lang/Throwable` or a class below it
+abbrev pub is_throwable : Program → ClassId → Bool
+is_throwable p c = list_any (is_named p (codes "java/lang/Throwable")) (line_of p c)
+
+abbrev pub catch_fits : Program → Option ClassId → Bool
+catch_fits p None = true
+catch_fits p (Some c) = is_throwable p c
+
+-- Rule 15, and rule 16 of a place: before an instruction in the range of an entry `this` is initialized, and the locals, with what is caught
+-- alone on the stack, flow into the frame that is declared at the handler.
+pub record IsCaught (p : Program) (m : Method) (f : Types) (h : Handler) : Type 0 where
+  pub frame : Types
+  pub there : declared m h.at ≡ Some frame
+  pub flows : FlowsInto p (record f { stack = caught_type p h.catch ∷ [] }) frame
+  pub set : f.unset ≡ false
+
+-- rule 16 of a catch type stands at the beginning of the range
+pub record IsHandled (p : Program) (m : Method) (at : ℕ) (f : Types) (h : Handler) : Type 0 where
+  pub within : covers h at ≡ true → IsCaught p m f h
+  pub begins : (h.start == at) ≡ true → catch_fits p h.catch ≡ true
+
+abbrev pub AreHandled : Program → Method → (at : ℕ) → Types → List Handler → Type 0
+AreHandled p m at f [] = Unit {0}
+AreHandled p m at f (h ∷ hs) = IsHandled p m at f h × AreHandled p m at f hs
+
+-- at each instruction, under the frame there
+abbrev pub Handles : Program → Method → List (ℕ × Instr) → List Types → Type 0
+Handles p m [] fs = Unit {0}
+Handles p m (e ∷ es) [] = ⊥
+Handles p m (e ∷ es) (f ∷ fs) = AreHandled p m e.0 f m.handlers × Handles p m es fs
+
+abbrev pub HandlesBy : Program → Method → (ℕ → Types) → List (ℕ × Instr) → Type 0
+HandlesBy p m typing [] = Unit {0}
+HandlesBy p m typing (e ∷ es) = AreHandled p m e.0 (typing e.0) m.handlers × HandlesBy p m typing es
+
+-- ---- a well-typed method
+
+pub record WellTyped (p : Program) (m : Method) : Type 0 where
+  pub arguments : nat_le (argument_slots m) m.max_locals ≡ true
+  pub frames : list_all (frame_fits m) m.frames ≡ true
+  pub walk : Typed p m (Some (entry m)) m.code
+  pub handled : Handles p m m.code (frames_of p m)
+
+pub record WellTypedBy (p : Program) (m : Method) (typing : ℕ → Types) : Type 0 where
+  pub arguments : nat_le (argument_slots m) m.max_locals ≡ true
+  pub frames : list_all (frame_fits m) m.frames ≡ true
+  pub walk : TypedBy p m typing (Some (entry m)) m.code
+  pub handled : HandlesBy p m typing m.code
+
+-- ---- a program
+
+abbrev pub has_code : Method → Bool
+has_code m = not (is_empty m.code)
+
+-- each method with code is well typed
+pub record IsWellTyped (p : Program) : Type 0 where
+  pub methods : (id : MethodId) (m : Method) → method_at p id ≡ Some m → has_code m ≡ true → WellTyped p m
+
+-- ---- frames as they are listed
 
 -- the first so many slots, Top where none is listed
 abbrev pub padded : ℕ → List VType → List VType
@@ -204,10 +264,12 @@ Among (y ∷ ys) x = (y ≡ x) ⊎ Among ys x
 abbrev pub edges : Instr → ℕ → List ℕ
 edges i to = if ends_path i then jump_targets i else to ∷ jump_targets i
 
--- some list of flow edges from a place reads the local before it is written
+-- Some list of flow edges, and of edges to handlers, from a place reads the local before it is written. An instruction that raises has
+-- written nothing.
 pub data Live (m : Method) (k : ℕ) : ℕ → Type 0 where
   ReadsIt : (p to : ℕ) (i : Instr) → fetched m.code m.code_length p ≡ Some (i, to) → reads i k ≡ true → Live m k p
   GoesOn : (p to q : ℕ) (i : Instr) → fetched m.code m.code_length p ≡ Some (i, to) → writes i k ≡ false → Among (edges i to) q → Live m k q → Live m k p
+  Catches : (p to q : ℕ) (i : Instr) → fetched m.code m.code_length p ≡ Some (i, to) → Among (handlers_at m.handlers p) q → Live m k q → Live m k p
 
 -- a table of live slots
 abbrev pub IsLive : Method → (ℕ → ℕ → Bool) → Type 0

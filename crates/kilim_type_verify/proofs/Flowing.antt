@@ -122,3 +122,7 @@ flow_end p fs ds k e = ap (locals_flow p (drop k fs)) (drop_all k ds (omega arit
 
 pub stack_end : (p : Program) (xs ys : List VType) (k : ℕ) → k ≡ length ys → length xs ≡ length ys → all_assignable p (drop k xs) (drop k ys) ≡ true
 stack_end p xs ys k e l = ap (λ zs. all_assignable p zs (drop k ys)) (drop_all k xs (omega arith)) ∙ ap (all_assignable p []) (drop_all k ys (omega arith))
+
+-- one type
+pub one_reversed : (p : Program) (x : VType) (ys : List VType) → all_assignable p (x ∷ []) ys ≡ all_assignable p (x ∷ []) (reverse ys)
+one_reversed p x ys = assignable_reversed p (x ∷ []) ys

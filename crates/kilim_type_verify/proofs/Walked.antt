@@ -10,7 +10,7 @@ use Rattle.kilim_program.specs.Lengths.{ends_path}
 use Rattle.kilim_program.specs.Program.{Program}
 use Rattle.kilim_type_spec.specs.Step.{Types, type_step}
 use Rattle.kilim_type_spec.specs.Typed.{arriving, declared, goes_on, flows_on, left_by, listed, no_types, frames_from}
-use Rattle.kilim_type_spec.specs.Faults.{lesser, fails_unless, targets_declared, instr_rule, fault_or, walk_fault}
+use Rattle.kilim_type_spec.specs.Faults.{lesser, fails_unless, targets_declared, instr_rule, place_rule, handler_rule, fault_or, walk_fault}
 use Rattle.kilim_type_verify.specs.declared.walk.Visited.TheVariants.{Goes, Fails}
 use Rattle.kilim_type_verify.specs.Places.{place_of, IsStepped}
 use Rattle.kilim_type_verify.specs.Walks.{VisitedUnder}
@@ -33,14 +33,31 @@ lesser_none (Some a) (Some b) e = absurd (by (nat_le a b) e)
     by true x = cc
     by false x = cc
 
-module _ (p : Program) (m : Method) (e : ℕ × Instr) (es : List (ℕ × Instr)) (pending : Option ℕ) where
-  pub visited : (state after : Types) (found : Option ℕ) (old new : List Frame) → lesser pending found ≡ None → IsStepped (instr_rule p m e.1 es (type_step p m e.0 e.1 state)) (type_step p m e.0 e.1 state) found after →
-      new ≡ old ++ listed m state ∷ [] → VisitedUnder p m pending (Some state) e es old new (Goes (goes_on (ends_path e.1) after))
-  visited state after found old new none done is = (ap (lesser pending) done.rule ∙ none, ap (flows_on (ends_path e.1)) (done.left (lesser_none pending found none)), is)
+lesser_first : (a b : Option ℕ) → lesser a b ≡ None → a ≡ None
+lesser_first None b e = refl
+lesser_first (Some a) None e = absurd (cc)
+lesser_first (Some a) (Some b) e = absurd (by (nat_le a b) e)
+  where
+    by : (t : Bool) → cond t (Some a) (Some b) ≡ None → ⊥
+    by true x = cc
+    by false x = cc
 
-  pub broken : (state after : Types) (found : Option ℕ) (old new : List Frame) (rule : ℕ) → lesser pending found ≡ Some rule → IsStepped (instr_rule p m e.1 es (type_step p m e.0 e.1 state)) (type_step p m e.0 e.1 state) found after →
+module _ (p : Program) (m : Method) (e : ℕ × Instr) (es : List (ℕ × Instr)) (pending : Option ℕ) where
+  both_rules : (state after : Types) (found unhandled : Option ℕ) → unhandled ≡ handler_rule p m e.0 state → IsStepped (instr_rule p m e.1 es (type_step p m e.0 e.1 state)) (type_step p m e.0 e.1 state) found after →
+      lesser pending (place_rule p m e es (Some state)) ≡ lesser pending (lesser found unhandled)
+  both_rules state after found unhandled handled done = ap (λ (a : Option ℕ). lesser pending (lesser a (handler_rule p m e.0 state))) done.rule ∙ ap (λ (b : Option ℕ). lesser pending (lesser found b)) (sym handled)
+
+  pub visited : (state after : Types) (found unhandled : Option ℕ) (old new : List Frame) → lesser pending (lesser found unhandled) ≡ None → unhandled ≡ handler_rule p m e.0 state → IsStepped (instr_rule p m e.1 es (type_step p m e.0 e.1 state)) (type_step p m e.0 e.1 state) found after →
+      new ≡ old ++ listed m state ∷ [] → VisitedUnder p m pending (Some state) e es old new (Goes (goes_on (ends_path e.1) after))
+  visited state after found unhandled old new none handled done is = (
+    both_rules state after found unhandled handled done ∙ none,
+    ap (flows_on (ends_path e.1)) (done.left (lesser_first found unhandled (lesser_none pending (lesser found unhandled) none))),
+    is,
+  )
+
+  pub broken : (state after : Types) (found unhandled : Option ℕ) (old new : List Frame) (rule : ℕ) → lesser pending (lesser found unhandled) ≡ Some rule → unhandled ≡ handler_rule p m e.0 state → IsStepped (instr_rule p m e.1 es (type_step p m e.0 e.1 state)) (type_step p m e.0 e.1 state) found after →
       VisitedUnder p m pending (Some state) e es old new (Fails rule)
-  broken state after found old new rule some done = ap (lesser pending) done.rule ∙ some
+  broken state after found unhandled old new rule some handled done = both_rules state after found unhandled handled done ∙ some
 
   pub nothing_goes : (old new : List Frame) (b : Bool) → b ≡ targets_declared m e.1 es → lesser pending (fails_unless b 2) ≡ None → new ≡ old ++ listed m no_types ∷ [] → VisitedUnder p m pending None e es old new (Goes None)
   nothing_goes old new b t none is = (ap (λ x. lesser pending (fails_unless x 2)) (sym t) ∙ none, refl, is)

@@ -1,6 +1,6 @@
 //! What flows into declared frames.
 
-ghost use Rattle.std.specs.Prelude.{◌≡◌, is_some};
+ghost use Rattle.std.specs.Prelude.{◌≡◌, ◌&&◌, ◌∷◌, [], is_some};
 ghost use Rattle.std.specs.List.{list_all};
 ghost use Rattle.kilim_type_spec.specs.Typed.{declared, frame_types, all_assignable};
 ghost use Rattle.kilim_type_spec.specs.Faults.{locals_flow, flows_into, flows_into_declared};
@@ -44,6 +44,15 @@ pub fn flows_into(program: &Program, from: &State, to: &Frame) -> bool
     locals_flow(program, from.locals(), to.locals.as_slice())
         && stack_flows(program, from.stack(), to.stack.as_slice())
         && (!from.is_unset() || has_unset_this(to.locals.as_slice()))
+}
+
+/// Whether the locals, with one type alone on the stack, flow into a declared frame.
+#[tactic(auto, using(crate::proofs::Flowing::one_reversed))]
+pub fn caught_into(program: &Program, from: &State, caught: VType, to: &Frame) -> bool
+    ensures { result ≡ (locals_flow program.now from.now.locals to.now.locals && all_assignable program.now (caught ∷ []) (frame_types to.now).stack) }
+{
+    locals_flow(program, from.locals(), to.locals.as_slice())
+        && stack_flows(program, &[caught], to.stack.as_slice())
 }
 
 /// Whether types flow into the frame that is declared at a place, if there is one.

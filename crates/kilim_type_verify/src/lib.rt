@@ -4,6 +4,7 @@
 mod entry;
 mod flows;
 mod frames;
+mod handlers;
 mod place;
 mod programs;
 mod stated;

@@ -11,6 +11,7 @@ ghost use Rattle.kilim_type_verify.specs.Walks.{VisitedUnder, CodeWalked, BodyWa
 
 use crate::entry::entry_rule;
 use crate::frames::{NO_FIT, code_at, frame_fault, listed};
+use crate::handlers::handler_rule;
 use crate::place::{NO_FRAME, fails_unless, is_followed, lesser, step};
 use kilim_program::{Instr, Method, Program};
 use kilim_type_flow::ends_path;
@@ -112,13 +113,16 @@ fn visit_under(
     let Ok(()) = push_listed(alloc, method, &state, frames) else {
         return Err(NoMemory);
     };
+    let Ok(unhandled) = handler_rule(alloc, program, method, entry.0, &state) else {
+        return Err(NoMemory);
+    };
     let mut after = state;
     let Ok(found) = step(
         alloc, program, method, entry.0, &entry.1, behind, &mut after,
     ) else {
         return Err(NoMemory);
     };
-    match lesser(pending, found) {
+    match lesser(pending, lesser(found, unhandled)) {
         Some(rule) => Ok(Visited::Fails(rule)),
         None => Ok(Visited::Goes(goes_on(ends_path(&entry.1), after))),
     }

@@ -9,7 +9,7 @@ use Rattle.kilim_program.specs.Lengths.{fetched, jump_targets, ends_path}
 use Rattle.kilim_program.specs.BuiltIn.{method_id}
 use Rattle.kilim_program.specs.Fits.{fits_type}
 use Rattle.kilim_type_spec.specs.Step.{meets, row, special_fits}
-use Rattle.kilim_type_spec.specs.Typed.{Live, ReadsIt, GoesOn, reads, IsLive, typing_of}
+use Rattle.kilim_type_spec.specs.Typed.{Live, Catches, ReadsIt, GoesOn, reads, IsLive, typing_of}
 use Rattle.kilim_weave_spec.specs.Form.{WovenForm}
 use Rattle.kilim_weave_spec.specs.Samples.{loop_execute, loop_plan, loop, woven_loop, woven_loop_marks}
 
@@ -36,6 +36,7 @@ none_reads k p to i f r = first (eqb 0 p) f
 none_live : (k p : ℕ) → Live loop_execute k p → ⊥
 none_live k p (ReadsIt q to i f r) = none_reads k q to i f r
 none_live k p (GoesOn q to next i f w a l) = none_live k next l
+none_live k p (Catches q to next i f a l) = none_live k next l
 
 live_is_none : IsLive loop_execute (λ place slot. false)
 live_is_none p k = (λ e. absurd (false≢true e), λ l. absurd (none_live k p l))

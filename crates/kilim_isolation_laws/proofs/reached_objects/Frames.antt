@@ -21,7 +21,7 @@ use Rattle.kilim_run_state.specs.declared.value.Object.{Object as HeapObject}
 use Rattle.kilim_run_state.specs.Machine.{Activation, Objects}
 use Rattle.kilim_run_model.specs.Reach.{Below, FramesName, LowerName, LiveNames, Liveness, MaybeNames, Names as NamesOne, SomeNames}
 use Rattle.kilim_type_spec.specs.Step.{Types, assignable, is_top, peek, result_types, vtype}
-use Rattle.kilim_type_spec.specs.Typed.{FlowsInto, GoesOn, Live, ReadsIt, all_assignable, declared, has_code}
+use Rattle.kilim_type_spec.specs.Typed.{Catches, FlowsInto, GoesOn, Live, ReadsIt, all_assignable, declared, has_code}
 use Rattle.kilim_type_laws.specs.Laws.{typing_at}
 use Rattle.kilim_type_laws.proofs.ByPlace.{typed_by_place}
 use Rattle.kilim_type_laws.proofs.Itself.{flows_itself}
@@ -39,7 +39,7 @@ use Rattle.kilim_isolation.specs.Walks.{entry_graph, machine_of}
 use Rattle.kilim_type_sound.specs.Fits as fits
 use Rattle.kilim_type_sound.specs.Fits.{AValue, AreThere, Awaited, BelowFit, Classes, FrameFits, Holds, Nothing, StackFits, Wanted, has_type, have_types, result_awaited, result_of}
 use Rattle.kilim_isolation_laws.specs.reached_objects.live.Laws.{IsAcceptedBy, IsThere as LiveIsThere}
-use Rattle.kilim_isolation_laws.proofs.reached_objects.live.NoHandlers.{handlers_flow, no_handler}
+use Rattle.kilim_isolation_laws.proofs.reached_objects.live.NoHandlers.{no_handler}
 use Rattle.kilim_isolation_laws.proofs.reached_objects.live.Gone.{result_stays}
 use Rattle.kilim_isolation_laws.proofs.reached_objects.live.Live.{live_is_there}
 use Rattle.kilim_isolation_laws.proofs.reached_objects.live.Locals.{result_locals}
@@ -96,7 +96,6 @@ module _ (p : Program) (wanted : Wanted) (live : Liveness) (of : Classes) (h : O
     is = is;
     coded = coded;
     well = typed_by_place p checked.keeps checked.well id m is coded;
-    handlers = handlers_flow p checked.keeps id m is (typing_at p id);
     goes = every_method_goes (typed p) checked.keeps checked.accepted id m is coded;
   }
 
@@ -108,6 +107,7 @@ module _ (p : Program) (wanted : Wanted) (live : Liveness) (of : Classes) (h : O
   wanted_live : (id : MethodId) (m : Method) → method_at p id ≡ Some m → (k at : ℕ) → Live m k at → wanted id at k ≡ true
   wanted_live id m is k at (ReadsIt x to i here read) = (checked.verified.wants id m is x (i, to) here).read k read
   wanted_live id m is k at (GoesOn x to q i here unwritten among l) = (checked.verified.wants id m is x (i, to) here).flow q k among (wanted_live id m is k q l) unwritten
+  wanted_live id m is k at (Catches x to q i here among l) = (checked.verified.wants id m is x (i, to) here).caught q k among (wanted_live id m is k q l)
 
   -- ---- the top frame
 

@@ -11,12 +11,11 @@ use Rattle.kilim_program.specs.Program.{Program}
 use Rattle.kilim_run_state.specs.declared.value.Object.{Object}
 use Rattle.kilim_run_state.specs.Machine.{Activation, Objects, stands_behind}
 use Rattle.kilim_run_model.specs.Reach.{Below, FramesName, Liveness, MaybeNames}
-use Rattle.kilim_type_spec.specs.Typed.{IsWellTyped, Live, listed_frames}
+use Rattle.kilim_type_spec.specs.Typed.{IsWellTyped, Live, covers, listed_frames}
 use Rattle.kilim_type_laws.specs.Laws.{typing_at}
 use Rattle.kilim_type_spec.specs.TypedProgram.{TypedProgram}
 use Rattle.kilim_isolation_pauses.specs.Pausing.{frames_at}
 use Rattle.kilim_isolation.specs.Faults.{IsAccepted}
-use Rattle.kilim_isolation.specs.Walks.{covers}
 use Rattle.kilim_isolation_paths.specs.Paths.{Has}
 use Rattle.kilim_type_sound.specs.Fits.{AreThere, Classes, Fits, Verified, Wanted}
 use Rattle.kilim_isolation_laws.specs.reached_objects.graphs.Threads.{FramesFit}

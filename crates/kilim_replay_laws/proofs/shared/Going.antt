@@ -62,7 +62,7 @@ first_run set keeps form well main =
     let is : IsVerified set (typing_at set.program) wanted = record {
       keeps = keeps;
       form = form;
-      verified = are_verified set.program (typing_at set.program) wanted keeps (λ id m is coded. typed_by_place set.program keeps well id m is coded) (λ id m is at found there. are_wanted.all at found.1 found.0);
+      verified = are_verified set.program (typing_at set.program) wanted keeps (λ id m is coded. typed_by_place set.program keeps well id m is coded) (λ id m is at found there. are_wanted.all m.handlers at found.1 found.0);
     } in
     record { typing = typing_at set.program; live = wanted; verified = is; main = main; typed = (verified_is_shared set (typing_at set.program) wanted is main).first }
 

@@ -6,7 +6,7 @@ use Rattle.kilim_program.specs.declared.instr.Instr.{Instr}
 use Rattle.kilim_program.specs.Lengths.{first_place, ends_path}
 use Rattle.kilim_program.specs.Program.{Program}
 use Rattle.kilim_type_spec.specs.Step.{Types, type_step}
-use Rattle.kilim_type_spec.specs.Typed.{declared, Here, goes_on, Typed, TypedBy, WellTyped, WellTypedBy, entry, arriving, no_types, flows_on, left_by, frames_from, frame_among, typing_of}
+use Rattle.kilim_type_spec.specs.Typed.{AreHandled, Handles, HandlesBy, frames_of, declared, Here, goes_on, Typed, TypedBy, WellTyped, WellTypedBy, entry, arriving, no_types, flows_on, left_by, frames_from, frame_among, typing_of}
 use Rattle.kilim_weave_laws.proofs.woven_types.OldFacts.{GrowsTo}
 
 module _ (p : Program) (m : Method) where
@@ -48,10 +48,16 @@ module _ (p : Program) (m : Method) where
         by_listed es (goes_on (ends_path e.1) t.2) typing t.5 (subst (λ (o : Option Types). Agree typing es (frames_from p m o es)) left a.1),
       )
 
+  handled_listed : (es : List (ℕ × Instr)) (fs : List Types) (typing : ℕ → Types) → Handles p m es fs → Agree typing es fs → HandlesBy p m typing es
+  handled_listed [] fs typing h a = tt
+  handled_listed (e ∷ es) [] typing h a = absurd a
+  handled_listed (e ∷ es) (f ∷ fs) typing h a = (subst (λ (z : Types). AreHandled p m e.0 z m.handlers) (sym a.0) h.0, handled_listed es fs typing h.1 a.1)
+
   pub by_place : GrowsTo m.code_length m.code → WellTyped p m → WellTypedBy p m (typing_of p m)
   unfolding typing_of
   by_place g t = record {
     arguments = t.arguments;
     frames = t.frames;
     walk = by_listed m.code (Some (entry m)) (typing_of p m) t.walk (same_listed m.code g (Some (entry m)) (typing_of p m) (λ q later. refl));
+    handled = handled_listed m.code (frames_of p m) (typing_of p m) t.handled (same_listed m.code g (Some (entry m)) (typing_of p m) (λ q later. refl));
   }

@@ -26,7 +26,7 @@ use Rattle.kilim_program.specs.Fits.{fits_type, is_named, type_assignable, base_
 use Rattle.kilim_program.specs.Keeps.{Keeps, code_is_whole, method_is_sound}
 use Rattle.kilim_program.specs.Lengths.{code_stands, first_place, has_length, is_code_place, is_reference_type}
 use Rattle.kilim_program.specs.Lengths as lengths
-use Rattle.kilim_program.specs.Names.{class_at, class_from, class_name, class_named, method_at}
+use Rattle.kilim_program.specs.Names.{class_at, class_from, class_name, class_named, is_empty, method_at}
 use Rattle.kilim_program.specs.Program.{Program}
 use Rattle.kilim_program.specs.Same.{argument_slots, is_constructor, type_slots}
 use Rattle.kilim_lemmas.proofs.Lists.{get_right, get_some}
@@ -44,6 +44,7 @@ use Rattle.kilim_weave_laws.proofs.woven_types.Prologue.{params_more, peek_end, 
 use Rattle.kilim_weave_laws.proofs.woven_types.Callless.{callless}
 use Rattle.kilim_weave_laws.proofs.woven_types.Unchanged.{unchanged}
 use Rattle.kilim_weave_laws.proofs.woven_types.Theorem.{proved}
+use Rattle.kilim_type_laws.proofs.NoTable.{none_handles}
 use Rattle.kilim_type_laws.proofs.members.FromKeeps.{all_at, itself}
 use Rattle.kilim_type_laws.proofs.members.ValueClasses as values
 use Rattle.kilim_weave_laws.specs.woven_programs.Law.{EachIsShort, KeepsPauses, NoneAcross, WovenProgramsAreTyped}
@@ -382,11 +383,15 @@ module _ (P W : Program) (counted : List (List Bool)) (keeps : Keeps P) (plainly
     old : WellTyped P m
     old = typed.methods id m at code
 
+    no_table : is_empty m.handlers ≡ true
+    no_table = all_at (λ (n : Method). is_empty n.handlers) P.methods id.0 m keeps.handlers at
+
     as_it_was : m.pausable ≡ false → WellTyped W m
     as_it_was is = record {
       arguments = old.arguments;
       frames = old.frames;
       walk = unchanged P W m (assigns P W fiber_parts grown) (above id m at) (programs id m m at refl) m.code (Some (entry m)) (pauses.plain id m at is) old.walk;
+      handled = none_handles W m no_table (Some (entry m)) m.code;
     }
 
     -- without pausable calls
@@ -433,6 +438,7 @@ module _ (P W : Program) (counted : List (List Bool)) (keeps : Keeps P) (plainly
             ap (λ (u : Bool). let z : Types = record { locals = cl; stack = []; unset = u } in Some z) (no_mark m.is_static plain_name),
             λ j t. ap (λ (ls : List VType). peek ls j) longer ∙ peek_front fl (param_slots (fiber_ty P ∷ [])) j (peek_end fl j t),
           );
+          handled = none_handles W handed no_table (Some (entry handed)) m.code;
         }
       where
         fits_in : is_constructor m ≡ false → nat_le (argument_slots handed) handed.max_locals ≡ true
@@ -477,6 +483,8 @@ module _ (P W : Program) (counted : List (List Bool)) (keeps : Keeps P) (plainly
           params = ap (λ (z : Method). z.params) e;
           result = ap (λ (z : Method). z.result) e;
           is_static = ap (λ (z : Method). z.is_static) e;
+          handlers = ap (λ (z : Method). is_empty z.handlers) e ∙ no_table;
+          had_none = no_table;
         } in
         record {
           typed = by_place P m (whole_code m (code_at id m at)).grows old;

@@ -6,6 +6,7 @@ use Rattle.std.proofs.lemmas.Bool.{and_parts, and_from, false≢true, leb-true, 
 use Rattle.std.proofs.lemmas.Bool.Decides.{eqb_tells}
 use Rattle.std.proofs.lemmas.List.{reverse-append}
 use Rattle.kilim_program.specs.declared.class.Field.{Field}
+use Rattle.kilim_program.specs.declared.class.Handler.{Handler}
 use Rattle.kilim_program.specs.declared.class.Method.{Method}
 use Rattle.kilim_program.specs.declared.instr.Instr.{Instr}
 use Rattle.kilim_program.specs.declared.instr.Instr.TheVariants.{Aaload, Iload, Lload, Aload, Istore, Lstore, Astore, Iinc, Pop, Pop2, Dup, DupX1, DupX2, Dup2, Dup2X1, Dup2X2, Swap, Ireturn, Lreturn, Areturn, Return, New, Ldc, LdcW, Ldc2W, Getstatic, Getfield, Putfield, Invokevirtual, Invokespecial, Invokestatic, Checkcast}
@@ -20,10 +21,10 @@ use Rattle.kilim_program.specs.declared.verified.VType.TheVariants.{Top, Int, Lo
 use Rattle.kilim_program.specs.Program.{Program}
 use Rattle.kilim_program.specs.Lengths.{ends_path, is_code_place}
 use Rattle.kilim_program.specs.Lengths.{first_place, fetched}
-use Rattle.kilim_program.specs.Names.{class_named, method_at, field_of}
+use Rattle.kilim_program.specs.Names.{class_named, is_empty, method_at, field_of}
 use Rattle.kilim_program.specs.Same.{is_constructor, argument_slots}
 use Rattle.kilim_type_spec.specs.Step.{Types, made_by, made_at, peek, is_top, is_long, is_unset, is_unset_this, words, vtype, class_vtype, vtype_of_class, constant_row, long_constant_row, field_row, static_row, virtual_row, special_row, special_by, Row, row}
-use Rattle.kilim_type_spec.specs.Typed.{declared, frame_in, frame_types, frame_fits, halves, is_proper, stands_at_new, Here, goes_on, TypedBy, slots_of_type, param_slots, entry, reads, writes, edges, Among, Live, ReadsIt, GoesOn, IsLive}
+use Rattle.kilim_type_spec.specs.Typed.{declared, frame_in, frame_types, frame_fits, halves, is_proper, stands_at_new, Here, goes_on, TypedBy, slots_of_type, param_slots, entry, reads, writes, edges, Among, Live, Catches, ReadsIt, GoesOn, IsLive, handlers_at}
 use Rattle.kilim_weave_spec.specs.Woven.{Plan, pausable_callee, below}
 use Rattle.kilim_weave_laws.specs.woven_types.Facts.{LawsAt, Facts, is_reference, is_savable, is_local_savable}
 use Rattle.kilim_weave_laws.specs.woven_types.Theorem.{Checked, AllChecked, AllNoneUnset}
@@ -432,9 +433,13 @@ module _ (fresh : ℕ → Bool) where
   found_next n None = n
   found_next n (Some f) = f.1
 
-  invert_live : (x : Plan) (p to k : ℕ) (i : Instr) (callee : Method) → fetched x.method.code x.method.code_length p ≡ Some (i, to) → pausable_callee x.program i ≡ Some callee → Live x.method k p → Live x.method k to
+  no_handlers : (hs : List Handler) (p q : ℕ) → is_empty hs ≡ true → Among (handlers_at hs p) q → ⊥
+  no_handlers [] p q none a = a
+  no_handlers (h ∷ hs) p q none a = cc
+
+  invert_live : (x : Plan) → is_empty x.method.handlers ≡ true → (p to k : ℕ) (i : Instr) (callee : Method) → fetched x.method.code x.method.code_length p ≡ Some (i, to) → pausable_callee x.program i ≡ Some callee → Live x.method k p → Live x.method k to
   unfolding found_instr found_next
-  invert_live x p to k i callee here call (ReadsIt p2 to' i' f r) =
+  invert_live x none p to k i callee here call (ReadsIt p2 to' i' f r) =
       let same : i' ≡ i = ap (found_instr i) (sym f ∙ here) in
       absurd (let y = call_reads x i callee k call in let z = ap (λ j. reads j k) same in cc)
     where
@@ -443,7 +448,8 @@ module _ (fresh : ℕ → Bool) where
       call_reads x (Invokespecial id) callee k e = refl
       call_reads x (Invokestatic id) callee k e = refl
       call_reads x i callee k e = absurd (none_is callee e)
-  invert_live x p to k i callee here call (GoesOn p2 to' q i' f n a l) =
+  invert_live x none p to k i callee here call (Catches p2 to' q i' f a l) = absurd (no_handlers x.method.handlers p q none a)
+  invert_live x none p to k i callee here call (GoesOn p2 to' q i' f n a l) =
       let same : i' ≡ i = ap (found_instr i) (sym f ∙ here) in
       let next : to' ≡ to = ap (found_next to) (sym f ∙ here) in
       subst (λ z. Live x.method k z) (sym (only to q (subst (λ ts. Among ts q) (straight x i callee to call) (subst (λ z. Among (edges i z) q) next (subst (λ j. Among (edges j to') q) same a))))) l
@@ -506,11 +512,11 @@ module _ (fresh : ℕ → Bool) where
       no_this (Uninit q) s = refl
       no_this (Object ty) s = refl
 
-  laws_at : (x : Plan) (p to : ℕ) (i : Instr) → fetched x.method.code x.method.code_length p ≡ Some (i, to) → IsLive x.method x.live → LawsAt x.live x.program p to i
-  laws_at x p to i here live = record {
+  laws_at : (x : Plan) → is_empty x.method.handlers ≡ true → (p to : ℕ) (i : Instr) → fetched x.method.code x.method.code_length p ≡ Some (i, to) → IsLive x.method x.live → LawsAt x.live x.program p to i
+  laws_at x none p to i here live = record {
     read = λ k r. (live p k).1 (ReadsIt p to i here r);
     flow = λ q k a l. flows (writes i k) q k refl a l;
-    kept = λ callee n k l. (live to k).1 (invert_live x p to k i callee here n ((live p k).0 l));
+    kept = λ callee n k l. (live to k).1 (invert_live x none p to k i callee here n ((live p k).0 l));
   }
     where
       flows : (b : Bool) (q k : ℕ) → writes i k ≡ b → Among (edges i to) q → x.live q k ≡ true → (x.live p k ≡ true) ⊎ (writes i k ≡ true)
@@ -536,17 +542,17 @@ module _ (fresh : ℕ → Bool) where
   fetched_past [] es e end l = let h = eq-eqb e.0 e.0 refl in rw h refl
   fetched_past (c ∷ pre) es e end l = let y = l.0 in let h = ne_eqb c.0 e.0 (λ z. omega (arith, z, y)) in let r = fetched_past pre es e end l.1 in rw h r
 
-  facts_from : (x : Plan) (pre es : List (ℕ × Instr)) → x.method.code ≡ pre ++ es → LowerThan (first_place es x.method.code_length) pre → GrowsTo x.method.code_length es → IsLive x.method x.live → (plain : is_constructor x.method ≡ false) (at_new : (q : ℕ) → is_some (made_at x.method.code q) ≡ fresh q) →
+  facts_from : (x : Plan) → is_empty x.method.handlers ≡ true → (pre es : List (ℕ × Instr)) → x.method.code ≡ pre ++ es → LowerThan (first_place es x.method.code_length) pre → GrowsTo x.method.code_length es → IsLive x.method x.live → (plain : is_constructor x.method ≡ false) (at_new : (q : ℕ) → is_some (made_at x.method.code q) ≡ fresh q) →
       AllSane x.program x.method plain at_new x.typing es → AllNoneUnset x es → Facts x es
   unfolding LowerThan
-  facts_from x pre [] code lower grows live plain at_new s n = tt
-  facts_from x pre (e ∷ es) code lower grows live plain at_new s n =
+  facts_from x none pre [] code lower grows live plain at_new s n = tt
+  facts_from x none pre (e ∷ es) code lower grows live plain at_new s n =
       let end = x.method.code_length in
       let to = first_place es end in
       let here : fetched x.method.code end e.0 ≡ Some (e.1, to) = ap (λ c. fetched c end e.0) code ∙ fetched_past pre es e end lower in
       let a = s.0 in (
         record {
-          laws = laws_at x e.0 to e.1 here live;
+          laws = laws_at x none e.0 to e.1 here live;
           room = a.room;
           within = a.within;
           set = a.set;
@@ -557,7 +563,7 @@ module _ (fresh : ℕ → Bool) where
             halves = a.halves;
           };
         },
-        facts_from x (pre ++ (e ∷ [])) es (code ∙ sym (append_assoc pre (e ∷ []) es)) (lower_join to pre e (lower_more e.0 to pre (let y = grows.0 in omega (arith, y)) lower) grows.0) grows.1 live plain at_new s.1 n.1,
+        facts_from x none (pre ++ (e ∷ [])) es (code ∙ sym (append_assoc pre (e ∷ []) es)) (lower_join to pre e (lower_more e.0 to pre (let y = grows.0 in omega (arith, y)) lower) grows.0) grows.1 live plain at_new s.1 n.1,
       )
 
   -- the frames of a method that is well typed, and its facts, without that on pauses
@@ -566,7 +572,7 @@ module _ (fresh : ℕ → Bool) where
   all_frames x plain at_new fits args walk checked new =
       walk_sane x.program x.method plain at_new x.typing x.method.code (Some (entry x.method)) fits checked new (entry_sane x.method plain args) walk
 
-  pub all_facts : (x : Plan) (plain : is_constructor x.method ≡ false) (at_new : (q : ℕ) → is_some (made_at x.method.code q) ≡ fresh q) → AllSane x.program x.method plain at_new x.typing x.method.code →
+  pub all_facts : (x : Plan) → is_empty x.method.handlers ≡ true → (plain : is_constructor x.method ≡ false) (at_new : (q : ℕ) → is_some (made_at x.method.code q) ≡ fresh q) → AllSane x.program x.method plain at_new x.typing x.method.code →
       IsLive x.method x.live → GrowsTo x.method.code_length x.method.code → AllNoneUnset x x.method.code → Facts x x.method.code
   unfolding LowerThan
-  all_facts x plain at_new s live grows n = facts_from x [] x.method.code refl tt grows live plain at_new s n
+  all_facts x none plain at_new s live grows n = facts_from x none [] x.method.code refl tt grows live plain at_new s n

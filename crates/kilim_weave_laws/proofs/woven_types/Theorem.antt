@@ -15,6 +15,7 @@ use Rattle.kilim_program.specs.Lengths.{first_place}
 use Rattle.kilim_program.specs.Same.{argument_slots, type_slots}
 use Rattle.kilim_type_spec.specs.Step.{Types, size, words, class_vtype}
 use Rattle.kilim_type_spec.specs.Typed.{WellTyped, TypedBy, entry}
+use Rattle.kilim_type_laws.proofs.NoTable.{none_handles}
 use Rattle.kilim_weave_spec.specs.Woven.{Plan, fiber, fiber_ty, fiber_slot, added_types, pausable_callee, below, taken, behind, Item, Mark, Does, Old, Resumes, Labelled}
 use Rattle.kilim_weave_laws.specs.woven_types.Facts.{Whole, Facts, PlaceFacts}
 use Rattle.kilim_weave_laws.specs.woven_types.Theorem.{Weaving}
@@ -88,7 +89,7 @@ module _ (x : Plan) (W : Program) (w : Method) (v : Weaving x W w) where
   frames_sane = all_frames (new_places x.method) x v.plain (λ q. refl) v.typed.frames v.typed.arguments v.typed.walk v.casts (news x.program x.method v.plain (whole_code x.method v.code).grows)
 
   pub facts : Facts x x.method.code
-  facts = all_facts (new_places x.method) x v.plain (λ q. refl) frames_sane v.live (whole_code x.method v.code).grows v.initialized
+  facts = all_facts (new_places x.method) x v.woven.had_none v.plain (λ q. refl) frames_sane v.live (whole_code x.method v.code).grows v.initialized
 
   call_sizes : (e : ℕ × Instr) (to : ℕ) (g : Types) → PlaceFacts x e to → (callee : Method) → pausable_callee x.program e.1 ≡ Some callee → Rattle.kilim_type_spec.specs.Step.type_step x.program x.method e.0 e.1 (x.typing e.0) ≡ Rattle.std.specs.Prelude.Ok g →
       length callee.params + length (below x callee e.0) ≤ x.method.max_stack
@@ -139,6 +140,7 @@ module _ (x : Plan) (W : Program) (w : Method) (v : Weaving x W w) where
           arguments = arguments_fit;
           frames = woven_frames x w v.woven grows v.plain frames_sane;
           walk = woven_walk x W w whole v.woven v.typed.walk facts m.0 m.1 begins (woven_stands x w v.woven grows);
+          handled = none_handles W w v.woven.handlers (Some (entry w)) w.code;
         },
         omega (arith, length_is, b),
       )

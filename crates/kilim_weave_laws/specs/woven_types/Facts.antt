@@ -10,7 +10,7 @@ use Rattle.kilim_program.specs.declared.verified.Frame.{Frame}
 use Rattle.kilim_program.specs.declared.verified.VType.{VType}
 use Rattle.kilim_program.specs.declared.verified.VType.TheVariants.{Top, Int, Long, Null, Object}
 use Rattle.kilim_program.specs.Program.{Program}
-use Rattle.kilim_program.specs.Names.{method_at}
+use Rattle.kilim_program.specs.Names.{is_empty, method_at}
 use Rattle.kilim_program.specs.Lengths.{first_place}
 use Rattle.kilim_program.specs.Same.{is_constructor}
 use Rattle.kilim_type_spec.specs.Step.{Types, peek, words, is_long, is_top, is_unset_this, is_object, assignable, vtype, object_type}
@@ -119,6 +119,9 @@ pub record WovenMethod (x : Plan) (w : Method) : Type 0 where
   pub params : w.params ≡ x.method.params ++ (fiber_ty x.program ∷ [])
   pub result : w.result ≡ x.method.result
   pub is_static : w.is_static ≡ x.method.is_static
+  -- no method has an exception table
+  pub handlers : is_empty w.handlers ≡ true
+  pub had_none : is_empty x.method.handlers ≡ true
 
 abbrev pub types_if : Option Frame → Option Types
 types_if None = None

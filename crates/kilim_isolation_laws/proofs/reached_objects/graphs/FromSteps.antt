@@ -12,7 +12,7 @@ use Rattle.kilim_program.specs.Lengths.{fetched}
 use Rattle.kilim_program.specs.Names.{method_at}
 use Rattle.kilim_program.specs.Program.{Program}
 use Rattle.kilim_type_spec.specs.Step.{Types, class_vtype}
-use Rattle.kilim_type_spec.specs.Typed.{declared}
+use Rattle.kilim_type_spec.specs.Typed.{covers, declared}
 use Rattle.kilim_isolation_graph.specs.declared.graph.Graph.{Graph}
 use Rattle.kilim_isolation_graph.specs.Canonical.{canonical_at}
 use Rattle.kilim_isolation_rules.specs.declared.deed.Deed.{Deed}
@@ -24,7 +24,7 @@ use Rattle.kilim_isolation_paths.specs.declared.machine.Exit.TheVariants as exit
 use Rattle.kilim_isolation_paths.specs.Paths.{Has, Reaches}
 use Rattle.kilim_isolation_paths.proofs.Accepted.{reaches_more}
 use Rattle.kilim_run_machine.specs.Raising.{catches_class, is_throwable}
-use Rattle.kilim_isolation.specs.Walks.{canonical_of, covers, exits_at, handled_at, machine_of, step, step_by, types_at}
+use Rattle.kilim_isolation.specs.Walks.{canonical_of, exits_at, handled_at, machine_of, step, step_by, types_at}
 use Rattle.kilim_isolation_laws.specs.reached_objects.graphs.Threads.{Becomes, Handled}
 use Rattle.kilim_isolation_laws.proofs.graph_rows.Passed.{ok_is, rule_passed}
 use Rattle.kilim_isolation_laws.proofs.graph_rows.Settle.{not_true, or_right}

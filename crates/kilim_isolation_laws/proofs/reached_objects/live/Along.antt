@@ -8,7 +8,7 @@ use Rattle.kilim_program.specs.declared.instr.Instr.TheVariants.{Athrow}
 use Rattle.kilim_program.specs.declared.verified.Frame.{Frame}
 use Rattle.kilim_program.specs.Lengths.{ends_path, fetched, jump_targets}
 use Rattle.kilim_program.specs.Program.{Program}
-use Rattle.kilim_type_spec.specs.Typed.{Among, declared, edges, reads}
+use Rattle.kilim_type_spec.specs.Typed.{Among, covers, declared, edges, reads}
 use Rattle.kilim_type_laws.proofs.Tops.{passed}
 use Rattle.kilim_isolation_paths.specs.declared.machine.Exit.{Exit}
 use Rattle.kilim_isolation_paths.specs.declared.machine.Exit.TheVariants as exit
@@ -18,7 +18,7 @@ use Rattle.kilim_isolation_graph.specs.Canonical.{canonical_at}
 use Rattle.kilim_isolation_graph.specs.Entry.{entry_nodes}
 use Rattle.kilim_isolation_rules.specs.declared.deed.Deed.{Deed}
 use Rattle.kilim_isolation_rules.specs.Rules.{judged, moves, raised_deed, to_handler}
-use Rattle.kilim_isolation.specs.Walks.{canonical_of, covers, declared_to, entry_graph, exits_at, exits_by, exits_of, exits_to, handled_at, is_throw, machine_of, step, step_by, types_at}
+use Rattle.kilim_isolation.specs.Walks.{canonical_of, declared_to, entry_graph, exits_at, exits_by, exits_of, exits_to, handled_at, is_throw, machine_of, step, step_by, types_at}
 use Rattle.kilim_isolation_laws.proofs.reached_objects.graphs.FromSteps.{came, passed_to}
 use Rattle.kilim_isolation_laws.proofs.reached_objects.live.Nodes.{IsClean, clean_at}
 

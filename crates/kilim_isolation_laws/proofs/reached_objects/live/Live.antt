@@ -14,8 +14,10 @@ use Rattle.kilim_program.specs.declared.verified.VType.TheVariants.{Top, Int, Lo
 use Rattle.kilim_program.specs.Lengths.{fetched, is_code_place}
 use Rattle.kilim_program.specs.Program.{Program}
 use Rattle.kilim_type_spec.specs.Step.{Types, Operand, Is, Loads, Adds, by_row, is_top, meets, peek, row, type_step}
-use Rattle.kilim_type_spec.specs.Typed.{Among, FlowsInto, GoesOn, Live, ReadsIt, declared, edges, entry, reads}
-use Rattle.kilim_type_laws.proofs.Edges.{edges_flow, stands_at}
+use Rattle.kilim_type_spec.specs.Typed.{Among, Catches, GoesOn, Live, ReadsIt, covers, declared, edges, entry, reads}
+use Rattle.kilim_type_laws.specs.Laws.{Lands}
+use Rattle.kilim_type_laws.proofs.Edges.{edges_flow, handlers_flow, stands_at}
+use Rattle.kilim_type_laws.proofs.Handlers.{entry_at}
 use Rattle.kilim_type_laws.proofs.Lives.{live_is_typed}
 use Rattle.kilim_type_laws.proofs.Tops.{passed, top_flows}
 use Rattle.kilim_isolation_paths.specs.declared.machine.Exit.TheVariants as exit
@@ -28,12 +30,12 @@ use Rattle.kilim_isolation_graph.specs.Graphs.{node_of, slot}
 use Rattle.kilim_isolation_graph.specs.Nodes.{is_gone}
 use Rattle.kilim_isolation_rules.specs.Marks.{names_gone}
 use Rattle.kilim_isolation_rules.specs.Rules.{any_flow_mixes, deed, left_by, moves, raised_deed}
-use Rattle.kilim_isolation.specs.Walks.{covers, declared_to, exits_at, exits_by, handled_at, machine_of, types_at}
+use Rattle.kilim_isolation.specs.Walks.{declared_to, exits_at, exits_by, handled_at, machine_of, types_at}
 use Rattle.kilim_isolation_laws.specs.reached_objects.live.Laws.{IsAcceptedBy, IsThere, IsThereBelow, LiveBelowIsThere, LiveIsThere, NamedIsNoNumber, is_number}
 use Rattle.kilim_isolation_laws.proofs.reached_objects.live.Along.{BreaksNone, among_by, begins_with, clean, exit_at, judged_none, raised_to, reached, reader_goes, some_by, stepped}
 use Rattle.kilim_isolation_laws.proofs.reached_objects.graphs.FromSteps.{handles_has, has_behind}
 use Rattle.kilim_isolation_laws.proofs.reached_objects.live.Entry.{entry_named}
-use Rattle.kilim_isolation_laws.proofs.reached_objects.live.Gone.{deed_stays}
+use Rattle.kilim_isolation_laws.proofs.reached_objects.live.Gone.{deed_stays, raised_stays}
 use Rattle.kilim_isolation_laws.proofs.reached_objects.live.Locals.{named_no_number, raised_locals, slot_stays}
 use Rattle.kilim_isolation_laws.proofs.reached_objects.live.Nodes.{HasType, gone_at, named_at}
 use Rattle.kilim_isolation_laws.proofs.reached_objects.live.Places.{declared_is, entry_here, number_flows, number_here}
@@ -72,10 +74,8 @@ module _ (p : Program) (id : MethodId) (m : Method) (typing : ℕ → Types) (fs
       (reaches_more (machine_of p m fs a.goes.first) at g (exit.Handler h.at) h.at goes.0 r refl out goes.1)
 
   -- each local before an instruction flows into the frame at its handler
-  handler_flows : (at next : ℕ) (i : Instr) → fetched m.code m.code_length at ≡ Some (i, next) → (h : Handler) → Has m.handlers h → covers h at ≡ true → FlowsInto p (record (typing at) { stack = a.handlers.caught h ∷ [] }) (typing h.at)
-  handler_flows at next i is h has covering =
-      let w = a.handlers.flows at next i is h has covering in
-      subst (λ (z : Types). FlowsInto p (record (typing at) { stack = a.handlers.caught h ∷ [] }) z) (sym (declared_is p m typing a.well h.at w.0 (a.handlers.place h has) w.1)) w.2
+  lands : (at next : ℕ) (i : Instr) → fetched m.code m.code_length at ≡ Some (i, next) → (h : Handler) → Has m.handlers h → covers h at ≡ true → Lands p m typing at h
+  lands at next i is h has covering = handlers_flow p a.keeps m typing a.well at next has.0 i h is has.1 covering
 
   -- ---- names and numbers
 
@@ -100,7 +100,7 @@ module _ (p : Program) (id : MethodId) (m : Method) (typing : ℕ → Types) (fs
   caught_named : (at next : ℕ) (i : Instr) (h : Handler) (g : Graph) → fetched m.code m.code_length at ≡ Some (i, next) → Has m.handlers h → covers h at ≡ true → AreNamed at g → AreNamed h.at (canonical_at (declared m h.at) (raised_deed p g (types_at m fs at) i).graph)
   caught_named at next i h g is has covering here k n e =
       let b = named_at (declared m h.at) (raised_deed p g (types_at m fs at) i).graph k n e in
-      let flow = handler_flows at next i is h has covering in
+      let flow = (lands at next i is h has covering).flows in
       let before = here k b.0 (ap (λ ls. slot ls k) (sym (raised_locals p g (types_at m fs at) i)) ∙ b.1) in
       not_both (is_number (peek (typing h.at).locals k)) (λ t. true≢false (sym (number_flows p (peek (typing at).locals k) (peek (typing h.at).locals k) (flow.locals k) t) ∙ before))
 
@@ -156,6 +156,17 @@ module _ (p : Program) (id : MethodId) (m : Method) (typing : ℕ → Types) (fs
   has_type q k None place is typed = tt
   has_type q k (Some d) place is typed = ap (λ (z : Types). is_top (peek z.locals k)) (sym (declared_is p m typing a.well q d place is)) ∙ typed
 
+  -- What is live at a handler isn't gone where the instruction raises: there it would stay gone.
+  caught_lives : (k x next : ℕ) (i : Instr) (g : Graph) (h : Handler) → Reaches (machine_of p m fs a.goes.first) x g → fetched m.code m.code_length x ≡ Some (i, next) → Has m.handlers h → covers h x ≡ true → is_top (peek (typing h.at).locals k) ≡ false →
+      ((u : Graph) → Reaches (machine_of p m fs a.goes.first) h.at u → Lives k u) → Lives k (raised_deed p g (types_at m fs x) i).graph
+  unfolding Lives
+  caught_lives k x next i g h r is has covering typed behind n e =
+      let raised = (raised_deed p g (types_at m fs x) i).graph in
+      let there = behind (canonical_at (declared m h.at) raised) (comes_to x next i g h r is has covering) in
+      not_both (is_gone (node_of raised n).standing) (λ gone.
+      let later = gone_at (declared m h.at) raised k n (has_type h.at k (declared m h.at) (lands x next i is h has covering).place refl typed) e gone in
+      true≢false (sym later.2 ∙ there later.0 later.1))
+
   live_lives : (k at : ℕ) → Live m k at → (g : Graph) → Reaches (machine_of p m fs a.goes.first) at g → Lives k g
   unfolding Lives
   live_lives k at (ReadsIt x next i is read) g r n e =
@@ -173,26 +184,23 @@ module _ (p : Program) (id : MethodId) (m : Method) (typing : ℕ → Types) (fs
       not_both (is_gone (node_of g n).standing) (λ gone.
       let later = gone_at (declared m q) (deed p m g (types_at m fs x) i).graph k n typed (slot_stays p m g (types_at m fs x) i k unwritten ∙ e) (kept.gone n (clean_here.within k n e) gone) in
       true≢false (sym later.2 ∙ behind later.0 later.1))
+  live_lives k at (Catches x next q i is among live) g r n e =
+      let clean_here = clean p m fs a.goes.first a.goes.begins x g r in
+      let kept = raised_stays p g (types_at m fs x) i in
+      let en = entry_at m.handlers x q among in
+      let typed = ap (λ (z : ℕ). is_top (peek (typing z).locals k)) en.leads ∙ live_is_typed p a.keeps m typing a.well k q live in
+      let lives = caught_lives k x next i g en.entry r is (en.n, en.there) en.covering typed (λ u reached. live_lives k q live u (subst (λ (z : ℕ). Reaches (machine_of p m fs a.goes.first) z u) en.leads reached)) in
+      not_both (is_gone (node_of g n).standing) (λ gone.
+      true≢false (sym (kept.gone n (clean_here.within k n e) gone) ∙ lives n (ap (λ ls. slot ls k) (raised_locals p g (types_at m fs x) i) ∙ e)))
 
   pub live_there : (k at : ℕ) → Live m k at → (g : Graph) → Reaches (machine_of p m fs a.goes.first) at g → IsThere typing k at g
   unfolding Lives
   live_there k at live g r = record { typed = live_is_typed p a.keeps m typing a.well k at live; lives = live_lives k at live g r }
 
-  -- What is live at a handler isn't gone where the instruction raises: there it would stay gone.
-  caught_lives : (k x next : ℕ) (i : Instr) (g : Graph) (h : Handler) → Reaches (machine_of p m fs a.goes.first) x g → fetched m.code m.code_length x ≡ Some (i, next) → Has m.handlers h → covers h x ≡ true → is_top (peek (typing h.at).locals k) ≡ false →
-      ((u : Graph) → Reaches (machine_of p m fs a.goes.first) h.at u → Lives k u) → Lives k (raised_deed p g (types_at m fs x) i).graph
-  unfolding Lives
-  caught_lives k x next i g h r is has covering typed behind n e =
-      let raised = (raised_deed p g (types_at m fs x) i).graph in
-      let there = behind (canonical_at (declared m h.at) raised) (comes_to x next i g h r is has covering) in
-      not_both (is_gone (node_of raised n).standing) (λ gone.
-      let later = gone_at (declared m h.at) raised k n (has_type h.at k (declared m h.at) (a.handlers.place h has) refl typed) e gone in
-      true≢false (sym later.2 ∙ there later.0 later.1))
-
   pub live_there_below : (at to : ℕ) (i : Instr) → fetched m.code m.code_length at ≡ Some (i, to) → (h : Handler) → Has m.handlers h → covers h at ≡ true → (k : ℕ) → Live m k h.at → (g : Graph) → Reaches (machine_of p m fs a.goes.first) at g → IsThereBelow p m typing fs k at i g
   unfolding Lives
   live_there_below at to i is h has covering k live g r = record {
-    typed = not_both (is_top (peek (typing at).locals k)) (λ top. true≢false (sym (top_flows p _ _ ((handler_flows at to i is h has covering).locals k) top) ∙ live_is_typed p a.keeps m typing a.well k h.at live));
+    typed = not_both (is_top (peek (typing at).locals k)) (λ top. true≢false (sym (top_flows p _ _ ((lands at to i is h has covering).flows.locals k) top) ∙ live_is_typed p a.keeps m typing a.well k h.at live));
     lives = caught_lives k at to i g h r is has covering (live_is_typed p a.keeps m typing a.well k h.at live) (λ u reached. live_lives k h.at live u reached);
   }
 

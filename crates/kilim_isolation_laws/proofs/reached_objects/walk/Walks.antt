@@ -22,7 +22,6 @@ use Rattle.kilim_isolation.specs.Walks.{declared_to, exits_by, machine_of, types
 use Rattle.kilim_isolation_laws.specs.reached_objects.live.Laws.{IsAcceptedBy}
 use Rattle.kilim_isolation_laws.proofs.reached_objects.live.Along.{by_among}
 use Rattle.kilim_isolation_laws.proofs.reached_objects.live.Live.{passes}
-use Rattle.kilim_isolation_laws.proofs.reached_objects.live.NoHandlers.{handlers_flow}
 use Rattle.kilim_isolation_laws.specs.reached_objects.walk.Laws.{WalksByTypes}
 use Rattle.kilim_isolation_laws.proofs.reached_objects.walk.Agree.{AgreeLocals}
 use Rattle.kilim_isolation_laws.proofs.reached_objects.walk.Listed.{frames_are_listed}
@@ -85,7 +84,7 @@ walks_by_types t typed keeps id m is coded goes at next i g to reaches there exi
     let fs = frames_at t id in
     let typing : ℕ → Types = typing_at p id in
     let well = typed_by_place p keeps typed.typed id m is coded in
-    let a : IsAcceptedBy p id m typing fs = record { keeps = keeps; is = is; coded = coded; well = well; handlers = handlers_flow p keeps id m is typing; goes = goes } in
+    let a : IsAcceptedBy p id m typing fs = record { keeps = keeps; is = is; coded = coded; well = well; goes = goes } in
     let w = passes p id m typing fs a at next i g to reaches there exit in
     let place = place_of m.code m.code_length at (i, next) there in
     let shows = (listed_frames_show p m typing well at place).1 in

@@ -24,7 +24,7 @@ use Rattle.kilim_run_state.specs.Machine.{Activation, Objects, stands_behind}
 use Rattle.kilim_run_machine.specs.Moves.{Move, entered, moves, push_value}
 use Rattle.kilim_run_machine.specs.Moves as move
 use Rattle.kilim_type_spec.specs.Step.{Types, class_vtype, peek, result_types, type_step}
-use Rattle.kilim_type_spec.specs.Typed.{Among, FlowsInto, declared, edges, entry, has_code, no_types}
+use Rattle.kilim_type_spec.specs.Typed.{Among, FlowsInto, covers, declared, edges, entry, has_code, no_types}
 use Rattle.kilim_isolation_laws.specs.forest.Heap.{IsForest}
 use Rattle.kilim_isolation_laws.specs.forest.Relation.{Safe}
 use Rattle.kilim_isolation_paths.specs.Paths.{Has, Reaches}
@@ -37,7 +37,7 @@ use Rattle.kilim_isolation_rules.specs.Calls.{given_result, is_owned, handler_gr
 use Rattle.kilim_isolation_rules.specs.Marks.{flow_mixes, stack_lives}
 use Rattle.kilim_isolation_rules.specs.Rules as rules
 use Rattle.kilim_isolation_rules.specs.Rules.{deed, raised_deed}
-use Rattle.kilim_isolation.specs.Walks.{covers, declared_to, entry_graph, exits_by, machine_of}
+use Rattle.kilim_isolation.specs.Walks.{declared_to, entry_graph, exits_by, machine_of}
 use Rattle.kilim_isolation_laws.specs.graph_rows.Holds.{Fits, HeapFits, IsOf, ObjectFits, Own, Stands, held_by, sort, Tree, Trees, Waiting, object_sort, refers, trees, type_sort}
 use Rattle.kilim_isolation_laws.specs.graph_rows.Facts.{IsGivenAway, IsTaken, IsVerified, ProgramKeeps}
 

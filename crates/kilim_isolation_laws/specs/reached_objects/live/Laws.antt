@@ -8,28 +8,20 @@ use Rattle.kilim_program.specs.Keeps.{Keeps}
 use Rattle.kilim_program.specs.Names.{method_at}
 use Rattle.kilim_program.specs.Program.{Program}
 use Rattle.kilim_type_spec.specs.Step.{Types, peek, is_int, is_long, is_top}
-use Rattle.kilim_type_spec.specs.Typed.{FlowsInto, Live, WellTypedBy, declared, has_code}
+use Rattle.kilim_type_spec.specs.Typed.{Live, WellTypedBy, covers, has_code}
 use Rattle.kilim_isolation_paths.specs.Paths.{Has, Reaches}
 use Rattle.kilim_isolation_graph.specs.declared.graph.Graph.{Graph}
 use Rattle.kilim_isolation_graph.specs.Graphs.{node_of, slot}
 use Rattle.kilim_isolation_graph.specs.Nodes.{is_gone}
 use Rattle.kilim_isolation.specs.Laws.{GoesOn}
-use Rattle.kilim_isolation.specs.Walks.{covers, machine_of, types_at}
+use Rattle.kilim_isolation.specs.Walks.{machine_of, types_at}
 use Rattle.kilim_isolation_rules.specs.Rules.{raised_deed}
-use Rattle.kilim_program.specs.Lengths.{fetched, is_code_place}
+use Rattle.kilim_program.specs.Lengths.{fetched}
 use Rattle.kilim_program.specs.declared.class.Handler.{Handler}
 use Rattle.kilim_program.specs.declared.instr.Instr.{Instr}
 
 abbrev pub is_number : VType → Bool
 is_number t = is_int t || is_long t
-
--- Verification's rule on handlers: a frame is declared at each, and what stands before an instruction of its range flows into that,
--- with what it catches alone on the stack.
-pub record HandlersFlow (p : Program) (m : Method) (typing : ℕ → Types) : Type 0 where
-  pub caught : Handler → VType
-  pub place : (h : Handler) → Has m.handlers h → is_code_place m.code h.at ≡ true
-  pub flows : (at next : ℕ) (i : Instr) → fetched m.code m.code_length at ≡ Some (i, next) → (h : Handler) → Has m.handlers h → covers h at ≡ true →
-      (d : Types) × (declared m h.at ≡ Some d) × FlowsInto p (record (typing at) { stack = caught h ∷ [] }) d
 
 -- A method of the program, with code, that is well typed by the frames at its places and whose graphs go on along every path. The
 -- frames over which the rules walk are given apart: in a typed program they are the listed ones.
@@ -38,7 +30,6 @@ pub record IsAcceptedBy (p : Program) (id : MethodId) (m : Method) (typing : ℕ
   pub is : method_at p id ≡ Some m
   pub coded : has_code m ≡ true
   pub well : WellTypedBy p m typing
-  pub handlers : HandlersFlow p m typing
   pub goes : GoesOn p m fs
 
 -- ---- live locals

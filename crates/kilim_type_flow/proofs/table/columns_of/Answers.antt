@@ -8,6 +8,7 @@ column_if-requires c = record {
   rising = c.requires.rising;
   below = c.requires.below;
   befores = c.requires.befores;
+  caught = c.requires.caught;
   unread = none_reads c.args.method.now c.args.read.now c.loop-local.local c.flag_at-is_read.result c.requires.marked c.flag_at-is_read.ensures;
 }
 

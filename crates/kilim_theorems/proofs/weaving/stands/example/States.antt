@@ -26,7 +26,7 @@ use Rattle.kilim_run_machine.specs.Natives.{Native, native_of}
 use Rattle.kilim_run_machine.specs.Natives as native
 use Rattle.kilim_run_model.specs.State.{class_of}
 use Rattle.kilim_type_spec.specs.Step.{Types, meets, row, special_fits}
-use Rattle.kilim_type_spec.specs.Typed.{Live, ReadsIt, GoesOn, reads, IsLive, typing_of}
+use Rattle.kilim_type_spec.specs.Typed.{Live, Catches, ReadsIt, GoesOn, reads, IsLive, typing_of}
 use Rattle.kilim_weave_spec.specs.Samples.{loop_execute, loop, woven_loop, woven_loop_marks, of_class}
 use Rattle.kilim_weave_spec.specs.Woven.{pausable_callee, taken, below, saved, saved_from}
 use Rattle.kilim_fiber_spec.specs.Acts.{Lost, Wants, Ends}
@@ -131,6 +131,7 @@ none_reads k p to i f r = start (eqb 0 p) f
 none_live : (k p : ℕ) → Live loop_execute k p → ⊥
 none_live k p (ReadsIt q to i f r) = none_reads k q to i f r
 none_live k p (GoesOn q to next i f w a l) = none_live k next l
+none_live k p (Catches q to next i f a l) = none_live k next l
 
 none_shown : (live : ℕ → ℕ → Bool) → IsLive loop_execute live → (p k : ℕ) → live p k ≡ false
 none_shown live is p k = by (live p k) refl
