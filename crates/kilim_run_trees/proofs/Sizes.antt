@@ -1,4 +1,5 @@
 -- The size of a tree.
+use Rattle.std.proofs.lemmas.List.{length-reverse}
 use Rattle.std.proofs.Common.{◌≡◌, ℕ, ◌+◌, ◌≤◌, List, [], ◌∷◌, ◌++◌, Some, length, refl, sym, ap, subst, ◌∙◌, arith, reverse, true, Bool}
 use Rattle.std.specs.Prelude.{IsSome, Result, Ok, Err, is_ok, IfOk}
 use Rattle.std.specs.FinMap.{get}
@@ -14,12 +15,12 @@ use Rattle.kilim_run_trees.proofs.Stacks.{pop_reversed, push_reversed}
 pub met_at : (heap : Objects) (root at count : ℕ) (stack rest : List ℕ) → Met heap root (reverse stack) count → stack ≡ rest ++ at ∷ [] → Met heap root (at ∷ reverse rest) count
 met_at heap root at count stack rest m e = subst (λ pending. Met heap root pending count) (pop_reversed stack rest at e) m
 
-pub too_large : (heap : Objects) (root at count : ℕ) (stack rest : List ℕ) → Met heap root (reverse stack) count → stack ≡ rest ++ at ∷ [] → count ≡ 65536 → IsTooLarge heap root
+pub too_large : (heap : Objects) (root at count : ℕ) (stack rest : List ℕ) → Met heap root (reverse stack) count → stack ≡ rest ++ at ∷ [] → 65536 ≤ count + length rest → IsTooLarge heap root
 unfolding tree_limit
 too_large heap root at count stack rest m e full entries tree =
     let n = met_at heap root at count stack rest m e in
     let h = leads_longer heap (root ∷ []) n.entries entries at (reverse rest) n.leads n.are_in tree.leads tree.are_in in
-    omega (arith, h, n.counted, full)
+    omega (arith, h, n.counted, full, length-reverse rest)
 
 pub next_met : (heap : Objects) (root at count : ℕ) (stack rest same after : List ℕ) (o : Object) → Met heap root (reverse stack) count → stack ≡ rest ++ at ∷ [] → get heap at ≡ Some o → same ≡ rest → after ≡ same ++ reverse (refs o) → Met heap root (reverse after) (count + 1)
 next_met heap root at count stack rest same after o m e g s a =

@@ -25,10 +25,15 @@ leads_join (n ∷ ns) (e ∷ es) fs mid to h k = (h.0, leads_join (refs e.1 ++ n
 pub one_object : (heap : Objects) (m n : ℕ) (a b : Object) → m ≡ n → get heap m ≡ Some a → get heap n ≡ Some b → a ≡ b
 one_object heap m n a b e p q = let r : get heap m ≡ Some b = subst (λ n. get heap n ≡ Some b) (sym e) q in let s : Some a ≡ Some b = sym p ∙ r in cc
 
--- a walk that isn't at its end is shorter than the whole one
-pub leads_longer : (heap : Objects) (from : List ℕ) (es fs : List (ℕ × Object)) (n : ℕ) (ns : List ℕ) → Leads from es (n ∷ ns) → AreIn heap es → Leads from fs [] → AreIn heap fs → length es < length fs
-leads_longer heap from [] [] n ns h a k b = let e : [] ≡ n ∷ ns = sym k ∙ h in cc
-leads_longer heap from [] (f ∷ fs) n ns h a k b = omega arith
+-- fewer are pending than are still to come
+pub leads_short : (from : List ℕ) (es : List (ℕ × Object)) → Leads from es [] → length from ≤ length es
+leads_short from [] h = let e : length from ≡ 0 = ap length h in omega (arith, e)
+leads_short [] (e ∷ es) h = absurd h
+leads_short (n ∷ ns) (e ∷ es) h = omega (arith, leads_short (refs e.1 ++ ns) es h.1, length-append (refs e.1) ns)
+
+-- of the whole walk as many are still to come as are pending, and more
+pub leads_longer : (heap : Objects) (from : List ℕ) (es fs : List (ℕ × Object)) (n : ℕ) (ns : List ℕ) → Leads from es (n ∷ ns) → AreIn heap es → Leads from fs [] → AreIn heap fs → length es + length (n ∷ ns) ≤ length fs
+leads_longer heap from [] fs n ns h a k b = let few = leads_short from fs k in let same : length from ≡ length (n ∷ ns) = ap length h in omega (arith, few, same)
 leads_longer heap from (e ∷ es) [] n ns h a k b = absurd (subst (λ from. Leads from (e ∷ es) (n ∷ ns)) k h)
 leads_longer heap [] (e ∷ es) (f ∷ fs) n ns h a k b = absurd h
 leads_longer heap (m ∷ ms) (e ∷ es) (f ∷ fs) n ns h a k b =
@@ -47,12 +52,6 @@ one_tree heap (m ∷ ms) (e ∷ es) (f ∷ fs) h a k b =
     let same : f.1 ≡ e.1 = one_object heap f.0 e.0 f.1 e.1 (sym same_place) b.0 a.0 in
     let entry : e ≡ f = λ i. (same_place i, sym same i) in
     λ i. entry i ∷ one_tree heap (refs e.1 ++ ms) es fs h.1 a.1 (subst (λ o. Leads (refs o ++ ms) fs []) same k.1) b.1 i
-
--- fewer are pending than are still to come
-pub leads_short : (from : List ℕ) (es : List (ℕ × Object)) → Leads from es [] → length from ≤ length es
-leads_short from [] h = let e : length from ≡ 0 = ap length h in omega (arith, e)
-leads_short [] (e ∷ es) h = absurd h
-leads_short (n ∷ ns) (e ∷ es) h = omega (arith, leads_short (refs e.1 ++ ns) es h.1, length-append (refs e.1) ns)
 
 pub in_more : (heap : Objects) (es : List (ℕ × Object)) (n : ℕ) (o : Object) → AreIn heap es → get heap n ≡ Some o → AreIn heap (es ++ (n, o) ∷ [])
 in_more heap [] n o a g = (g, tt)

@@ -86,7 +86,8 @@ pub(crate) fn tree_size(alloc: Global, heap: &Heap, root: u32) -> Result<usize, 
     }
     let mut count: usize = 0;
     while let Some(at) = pending.pop() {
-        if count == LIMIT {
+        // each place that is pending is met, and may be met again
+        if pending.len() >= LIMIT - count {
             return Err(MoveFault::TooLarge);
         }
         count += 1;

@@ -13,7 +13,7 @@ use crate::reserve::tree_size;
 use crate::shapes::{push_frame, push_plain, shown};
 use kilim_program::{Program, Value};
 use kilim_run_state::{Heap, Object, Shape, Token};
-use kilim_units::{NoMemory, Seq};
+use kilim_units::{NoMemory, Seq, no_room};
 use std::alloc::Global;
 
 // The value of an object at a place among its fields and elements.
@@ -104,7 +104,8 @@ fn emit_from(
             }
             Some(value) => {
                 let Some(after) = next.checked_add(1) else {
-                    return Err(NoMemory);
+                    // room: 2^64 values of an object in memory
+                    return Err(no_room());
                 };
                 let Ok(()) = push_frame(frames, at, after) else {
                     return Err(NoMemory);

@@ -2,13 +2,13 @@ use Rattle.std.proofs.Common.{arith, ◌≡◌, length}
 use Rattle.kilim_run_trees.proofs.Sizes.{too_large, next_met, size_of}
 use Rattle.kilim_run_trees.proofs.reserve.tree_size.Goals as goal
 
-pub returns-then-count-eq-LIMIT-clause-err : goal.returns-then-count-eq-LIMIT-clause-err
-returns-then-count-eq-LIMIT-clause-err c = too_large _ _ _ _ _ _ c.loop-at.invariant.met c.in-Some.ensures.items c.if-count-eq-LIMIT.true
+pub returns-then-len-count-clause-err : goal.returns-then-len-count-clause-err
+returns-then-len-count-clause-err c = too_large _ _ _ _ _ _ c.loop-at.invariant.met c.in-Some.ensures.items (omega (arith, c.if-len-count.true, c.len.ensures, c.loop-at.invariant.small))
 
 pub loop-at-preserved : goal.loop-at-preserved
 loop-at-preserved c = record {
   met = next_met _ _ _ _ _ _ _ _ _ c.loop-at.invariant.met c.in-Some.ensures.items c.object-object.ensures c.reserve_refs.ensures.items c.push_refs.ensures.items;
-  small = omega (arith, c.loop-at.invariant.small, c.if-count-eq-LIMIT.false);
+  small = omega (arith, c.loop-at.invariant.small, c.if-len-count.false);
 }
 
 pub returns-clause-ok : goal.returns-clause-ok
