@@ -74,6 +74,29 @@ BUILT_IN = {
     "kilim/Mailbox": ("java/lang/Object", {"<init>()V", "put(Lkilim/Message;)V", "get()Lkilim/Message;", "getnb()Lkilim/Message;"}),
     "kilim/Sys": ("java/lang/Object", {"print(I)V", "print(J)V", "print(Ljava/lang/String;)V", "yield()V", "argCount()I", "arg(I)I",
                                        "take([Lkilim/Message;I)Lkilim/Message;"}),
+    "java/lang/Throwable": ("java/lang/Object", {"<init>()V"}),
+    "java/lang/Exception": ("java/lang/Throwable", {"<init>()V"}),
+    "java/lang/RuntimeException": ("java/lang/Exception", {"<init>()V"}),
+    "java/lang/NullPointerException": ("java/lang/RuntimeException", {"<init>()V"}),
+    "java/lang/IndexOutOfBoundsException": ("java/lang/RuntimeException", {"<init>()V"}),
+    "java/lang/ArrayIndexOutOfBoundsException": ("java/lang/IndexOutOfBoundsException", {"<init>()V"}),
+    "java/lang/StringIndexOutOfBoundsException": ("java/lang/IndexOutOfBoundsException", {"<init>()V"}),
+    "java/lang/NegativeArraySizeException": ("java/lang/RuntimeException", {"<init>()V"}),
+    "java/lang/ClassCastException": ("java/lang/RuntimeException", {"<init>()V"}),
+    "java/lang/ArrayStoreException": ("java/lang/RuntimeException", {"<init>()V"}),
+    "java/lang/ArithmeticException": ("java/lang/RuntimeException", {"<init>()V"}),
+}
+
+# with which word a task ends that throws an object of just that class; all others are `thrown`
+WORDS = {
+    "java/lang/NullPointerException": "null",
+    "java/lang/IndexOutOfBoundsException": "index",
+    "java/lang/ArrayIndexOutOfBoundsException": "index",
+    "java/lang/StringIndexOutOfBoundsException": "index",
+    "java/lang/NegativeArraySizeException": "size",
+    "java/lang/ClassCastException": "cast",
+    "java/lang/ArrayStoreException": "store",
+    "java/lang/ArithmeticException": "zero",
 }
 
 
@@ -770,6 +793,11 @@ def anewarray(t, f, a, b):
 @op(190)
 def arraylength(t, f, a, b):
     f.stack.append(len(held(f.stack.pop()).elements))
+
+
+@op(191)
+def athrow(t, f, a, b):
+    raise End(WORDS.get(type_of(held(f.stack.pop())), "thrown"))
 
 
 @op(192)

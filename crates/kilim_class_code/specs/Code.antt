@@ -54,7 +54,7 @@ mid_target code = first_failing (is_place code) code
 
 -- goto, goto_w, the switches and the returns
 unfoldable pub ends : RawInstr → Bool
-ends (Plain op) = op == opcode.ireturn || op == opcode.lreturn || op == opcode.areturn || op == opcode.return
+ends (Plain op) = op == opcode.ireturn || op == opcode.lreturn || op == opcode.areturn || op == opcode.return || op == opcode.athrow
 ends (Jump op to) = op == opcode.goto
 ends (WideJump op to) = true
 ends (TableSwitch op default low targets) = true

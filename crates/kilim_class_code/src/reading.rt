@@ -68,7 +68,9 @@ fn ends(instr: &RawInstr) -> bool
     ensures { result ≡ ends instr.now }
 {
     match instr {
-        RawInstr::Plain(op) => *op == 172 || *op == 173 || *op == 176 || *op == 177,
+        RawInstr::Plain(op) => {
+            *op == 172 || *op == 173 || *op == 176 || *op == 177 || *op == 191
+        }
         RawInstr::Jump(op, _) => *op == 167,
         RawInstr::WideJump(_, _)
         | RawInstr::TableSwitch(_, _, _, _)

@@ -6,7 +6,7 @@ use crate::words::Asked;
 use kilim_command::{accepted_line, no_main};
 use kilim_stages::woven_stage::{with_main, woven_program};
 use kilim_stages::{Refusal, accepted, coded_methods};
-use kilim_units::{NoMemory, Seq, unmet};
+use kilim_units::{NoMemory, Seq};
 use std::alloc::Global;
 
 /// What is to be written.
@@ -77,12 +77,11 @@ fn units_of(alloc: Global, text: &str) -> Result<Vec<u16>, NoMemory> {
 
 /// What the stages say of the bytes of the files: of reading, linking, typing and the rules; and where a main class is asked for, of weaving and
 /// of that class.
-pub fn said_of(alloc: Global, asked: &Asked<'_>, files: &[Seq<u8>]) -> Result<Said, NoMemory> {
+pub fn said_of(alloc: Global, asked: &Asked<'_>, files: &[Seq<u8>]) -> Result<Said, NoMemory>
+    requires few { length files.now ≤ 1000 }
+    requires same { length asked.now.files.now ≡ length files.now }
+{
     let names = asked.files;
-    if files.len() > 1000 || names.len() != files.len() {
-        // unmet: the words name at most 1,000 files, and each of them was read
-        return Err(unmet());
-    }
     if let Some(main) = asked.main {
         if let Some(said) = without_main(alloc, names, files, main)? {
             return Ok(said);

@@ -1,5 +1,7 @@
 //! From the words to the status.
 
+ghost use Rattle.std.specs.Prelude.{◌≡◌, ◌≤◌, length};
+
 use crate::check::{Said, said_of};
 use crate::help::{HELP, VERSION};
 use crate::shown::bold;
@@ -91,7 +93,10 @@ fn answer(
     asked: &Asked<'_>,
     files: &[Seq<u8>],
     is_terminal: bool,
-) -> Result<u8, NoMemory> {
+) -> Result<u8, NoMemory>
+    requires few { length files.now ≤ 1000 }
+    requires same { length asked.now.files.now ≡ length files.now }
+{
     match said_of(alloc, asked, files)? {
         Said::Accepted(text) => Ok(write(rt, text.as_slice(), DONE)),
         Said::Report(report) => {
@@ -110,7 +115,9 @@ fn work(
     alloc: Global,
     asked: &Asked<'_>,
     is_terminal: bool,
-) -> u8 {
+) -> u8
+    requires { length asked.now.files.now ≤ 1000 }
+{
     let mut folder = DiskFolder::new(rt, alloc);
     match read_all(alloc, asked.files, &mut folder) {
         Ok(files) => match answer(rt, alloc, asked, files.as_slice(), is_terminal) {

@@ -1,5 +1,7 @@
 //! The words of the command line.
 
+ghost use Rattle.std.specs.Prelude.{◌≡◌, ◌≤◌, true, IfSome, length};
+
 /// What the words ask for.
 #[derive(Clone, Copy)]
 pub struct Asked<'a> {
@@ -23,7 +25,9 @@ fn value_of<'a>(front: &str, word: &'a str) -> Option<&'a str> {
 }
 
 // With one more option; None where it is none, or stands twice.
-fn with_option<'a>(asked: Asked<'a>, word: &'a str) -> Option<Asked<'a>> {
+fn with_option<'a>(asked: Asked<'a>, word: &'a str) -> Option<Asked<'a>>
+    ensures { IfSome result (λ next. next.files ≡ asked.entry.files) }
+{
     match (value_of("--source=", word), value_of("--main=", word)) {
         (Some(folder), _) => {
             if asked.below.is_some() {
@@ -64,7 +68,9 @@ fn options(words: &[String]) -> usize {
 }
 
 // Whether these can be names of files: at least one, not too many, none empty, none like an option.
-fn are_files(words: &[String]) -> bool {
+fn are_files(words: &[String]) -> bool
+    ensures { result ≡ true → length words.now ≤ 1000 }
+{
     if words.is_empty() || words.len() > FILES {
         return false;
     }
@@ -77,7 +83,9 @@ fn are_files(words: &[String]) -> bool {
 }
 
 /// What the words ask for: options, each at most once, and then the names of files. None where they aren't such words.
-pub fn request(words: &[String]) -> Option<Asked<'_>> {
+pub fn request(words: &[String]) -> Option<Asked<'_>>
+    ensures { IfSome result (λ asked. length asked.files.now ≤ 1000) }
+{
     let count = options(words);
     if count > words.len() {
         return None;

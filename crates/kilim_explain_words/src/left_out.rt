@@ -21,10 +21,6 @@ fn opcode(number: &[u8]) -> Advice {
             "a lambda, or a method reference",
             "an abstract class with a method, and a class for each",
         ),
-        b"191" => advise(
-            "`throw`, or `assert`",
-            "a result, or a message, that says what went wrong",
-        ),
         b"194" | b"195" => advise(
             "a `synchronized` block",
             "nothing: no object is shared, so a task needs no lock",

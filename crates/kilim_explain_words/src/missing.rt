@@ -10,10 +10,6 @@ pub fn missing(name: &[u8]) -> Advice {
             "one Sys.print for each part: no text is made while a program runs",
         ),
         b"java/lang/Enum" => advise("an enum", "static final int constants"),
-        b"java/lang/Throwable" => advise(
-            "`try` with `finally`, or a `synchronized` block",
-            "nothing: a task needs no lock, and what would throw ends the task (docs/JOURNAL.md)",
-        ),
         b"java/lang/System" => advise("System is used", "Sys.print for System.out.println"),
         b"java/lang/Math" => advise("Math is used", "a method of your own"),
         b"java/lang/Integer" | b"java/lang/Long" | b"java/lang/Boolean" | b"java/lang/Character" =>
@@ -30,8 +26,8 @@ pub fn missing(name: &[u8]) -> Advice {
 fn of_library(name: &[u8]) -> Advice {
     if name.starts_with(b"java/lang/") && name.ends_with(b"Exception") {
         return advise(
-            "an exception is made or caught",
-            "a result, or a message, that says what went wrong",
+            "an exception of Java's library: it isn't there",
+            "RuntimeException, or a class of your own below it",
         );
     }
     if name.starts_with(b"java/") {
@@ -64,6 +60,12 @@ pub fn no_member(name: &[u8]) -> Advice {
         return advise(
             "objects have no equals, hashCode, toString or getClass",
             "a method of your own, with another name",
+        );
+    }
+    if name.starts_with(b"java/lang/") {
+        return advise(
+            "an exception has a constructor without arguments, and nothing else",
+            "a field in a class of your own below it",
         );
     }
     if name.starts_with(b"kilim/") {

@@ -21,20 +21,21 @@ use Rattle.kilim_run_model.specs.declared.deed.Deed.{Deed}
 use Rattle.kilim_run_trees.specs.Moved.{tree_heap}
 use Rattle.kilim_fiber_spec.specs.fiber_kin.Acts.{IsSound}
 use Rattle.kilim_run_board.specs.fibers.Fibers.{Asks, CanAnswer, CountsRightly, Fits, StandsFor}
-use Rattle.kilim_run_board.specs.fibers.Wishes.{IsMessage, Wish, ToPut, ToTake, ToProbe, ToStart, ToPrint}
+use Rattle.kilim_run_board.specs.fibers.Wishes.{IsMessage, Wish, ToPut, ToPutWait, ToBound, ToTake, ToProbe, ToStart, ToPrint}
 use Rattle.kilim_run_board.specs.declared.fibers.Answer.{Answer}
 use Rattle.kilim_run_board.specs.declared.fibers.Answer.TheVariants as answer
 use Rattle.kilim_fiber_laws.specs.woven_kin.history.History.{took}
-use Rattle.kilim_fiber_laws.specs.woven_kin.Nexts.{counted, paused_at, taken_at, with_result}
+use Rattle.kilim_fiber_laws.specs.woven_kin.Nexts.{counted, paused_at, taken_at, waiting_at, with_result}
 use Rattle.kilim_fiber_laws.specs.woven_kin.Standing.{Standing}
-use Rattle.kilim_fiber_body.specs.Body.{behind_at, standing_at, RoomIn, RoomyIn}
+use Rattle.kilim_fiber.proofs.Kept.{apart_same}
+use Rattle.kilim_fiber_body.specs.Body.{aside_in, behind_at, standing_at, RoomIn, RoomyIn}
 use Rattle.kilim_fiber_body.specs.declared.body.Body.{Body}
 use Rattle.kilim_fiber_body.specs.declared.code.Code.{Code}
 use Rattle.kilim_fiber_laws.specs.Fibers.{Holds}
 use Rattle.kilim_fiber_laws.specs.Nexts.{Behind, CanReceive}
-use Rattle.kilim_fiber.specs.Calls.{Answered, AnswerSuits, Found, IsAnswerTo, Noted, Passed, Refused, Taken, takes_value}
+use Rattle.kilim_fiber.specs.Calls.{Answered, AnswerSuits, Found, IsAnswerTo, Noted, Passed, Refused, Taken, Waiting, takes_value}
 use Rattle.kilim_fiber.specs.Clauses.{Went}
-use Rattle.kilim_fiber.specs.Fiber.{task_of, course_of, wished, AskedOf, CanGoOn, HoldsFiber, ServesCode, StandsAs}
+use Rattle.kilim_fiber.specs.Fiber.{task_of, course_of, wished, AskedOf, CanGoOn, HoldsFiber, IsApart, ServesCode, StandsAs}
 use Rattle.kilim_fiber.specs.declared.fiber.Asked.{Asked}
 use Rattle.kilim_fiber.specs.declared.fiber.Asked.TheVariants as asked
 use Rattle.kilim_fiber.specs.declared.fiber.Fiber.{Fiber}
@@ -63,6 +64,17 @@ fits_asked p (asked.Put box shape) wish a deed e fits = put_fits a (subst (λ (z
     put_fits : (a : Answer) → Fits p (ToPut box shape.value) a deed → IsAnswerTo (asked.Put box shape) a
     put_fits (answer.Sent n) f = tt
     put_fits _ f = absurd f
+fits_asked p (asked.PutWait box shape) wish a deed e fits = wait_fits a (subst (λ (z : Wish). Fits p z a deed) (same_Some _ _ e) fits)
+  where
+    wait_fits : (a : Answer) → Fits p (ToPutWait box shape.value) a deed → IsAnswerTo (asked.PutWait box shape) a
+    wait_fits (answer.Sent n) f = tt
+    wait_fits (answer.Full tree same) f = tt
+    wait_fits _ f = absurd f
+fits_asked p (asked.Bound box most) wish a deed e fits = bound_fits a (subst (λ (z : Wish). Fits p z a deed) (same_Some _ _ e) fits)
+  where
+    bound_fits : (a : Answer) → Fits p (ToBound box most) a deed → IsAnswerTo (asked.Bound box most) a
+    bound_fits answer.Done f = tt
+    bound_fits _ f = absurd f
 fits_asked p (asked.Take box) wish a deed e fits = take_fits a (subst (λ (z : Wish). Fits p z a deed) (same_Some _ _ e) fits)
   where
     take_fits : (a : Answer) → Fits p (ToTake box) a deed → IsAnswerTo (asked.Take box) a
@@ -113,8 +125,8 @@ module _ (set : Setting) (code : Code) (old : Fiber) (x : Asked) (new : Fiber) (
   IsBehind d f = Behind set W marks old.task (course_of old) d f
 
   -- it stands for the course with that deed
-  stands : (d : Deed) (s : Standing) → Noted mid new d → standing_at 0 new.body ≡ s → RoomyIn W new.body.frames → s.done ≡ old.body.count + 1 → IsBehind d s → StandsFor task_of course_of (HoldsFiber W marks) set new
-  stands d s n e roomy one w =
+  stands : (d : Deed) (s : Standing) → Noted mid new d → standing_at 0 new.body ≡ s → RoomyIn W new.body.frames → s.done ≡ old.body.count + 1 → s.aside ≡ aside_in old.body.apart → IsBehind d s → StandsFor task_of course_of (HoldsFiber W marks) set new
+  stands d s n e roomy one same w =
       let few = held.few in
       let count : new.body.count ≡ old.body.count + 1 = ap (λ (f : Standing). f.done) e ∙ one in
       let idle : new.idle ≡ false = n.idle ∙ held.busy in
@@ -129,22 +141,23 @@ module _ (set : Setting) (code : Code) (old : Fiber) (x : Asked) (new : Fiber) (
           roomy = roomy;
           most = omega (arith, few, count);
           is-main = held.is-main ∙ sym n.main;
+          apart = apart_same set.program new.body.apart old.body.apart (ap (λ (f : Standing). f.aside) e ∙ same) held.apart;
           refused = λ v h. absurd (none-some v (sym n.refused ∙ h));
         };
       }
 
   -- with the deed that was made
   made : (wish : Wish) (d : Deed) (s : Standing) (deed : Option Deed) → deed ≡ Some d → ((before after : ℕ) (refused : Option Waits) → before < after → refused ≡ None → CountsRightly wish before after refused (Some d)) →
-      Noted mid new d → standing_at 0 new.body ≡ s → RoomyIn W new.body.frames → s.done ≡ old.body.count + 1 → IsBehind d s → Went code set old wish deed new
-  made wish d s deed e counts n at roomy one w =
+      Noted mid new d → standing_at 0 new.body ≡ s → RoomyIn W new.body.frames → s.done ≡ old.body.count + 1 → s.aside ≡ aside_in old.body.apart → IsBehind d s → Went code set old wish deed new
+  made wish d s deed e counts n at roomy one same w =
       let few = held.few in
       let count : new.body.count ≡ old.body.count + 1 = ap (λ (f : Standing). f.done) at ∙ one in
       subst (λ (o : Option Deed). Went code set old wish o new) (sym e)
-      (further_is d n, stands d s n at roomy one w, counts old.body.count new.body.count new.refused (omega (arith, count)) n.refused, omega (arith, few, count))
+      (further_is d n, stands d s n at roomy one same w, counts old.body.count new.body.count new.refused (omega (arith, count)) n.refused, omega (arith, few, count))
 
   passed : (wish : Wish) (d : Deed) (s : Standing) (deed : Option Deed) → deed ≡ Some d → ((before after : ℕ) (refused : Option Waits) → before < after → refused ≡ None → CountsRightly wish before after refused (Some d)) →
-      Passed W mid new d s → s.done ≡ old.body.count + 1 → IsBehind d s → Went code set old wish deed new
-  passed wish d s deed e counts w one behind = made wish d s deed e counts w.noted w.stands w.roomy one behind
+      Passed W mid new d s → s.done ≡ old.body.count + 1 → s.aside ≡ aside_in old.body.apart → IsBehind d s → Went code set old wish deed new
+  passed wish d s deed e counts w one same behind = made wish d s deed e counts w.noted w.stands w.roomy one same behind
 
   -- the message that was told is the one that came
   same_message : (tree : List Object) (shape given : List Token) → shape_of p (tree_heap tree) 0 ≡ Some given → IsMessage p tree shape → shape ≡ given
@@ -163,7 +176,7 @@ module _ (set : Setting) (code : Code) (old : Fiber) (x : Asked) (new : Fiber) (
       let same = same_message tree shape w.shape has.received.has message in
       let s = record (taken_at (behind_at 0 old.body)) { frames = push_value (Ref has.root) (taken_at (behind_at 0 old.body)).frames; heap = has.mid.heap } in
       made (ToTake box) (took box n w.shape) s deed (e ∙ ap (λ (z : List Token). Some (took box n z)) same) (λ b a r lt none. (lt, none)) w.noted
-      (has.stands ∙ as_pushed has.mid has.root has.received.same) has.roomy refl
+      (has.stands ∙ as_pushed has.mid has.root has.received.same) has.roomy refl refl
       (receive n tree w.shape has.mid.heap has.root (message_sound p tree w.shape (subst (IsMessage p tree) same message)) has.received.put)
 
   probe_came : (box : BoxName) (tree : List Object) (n : ℕ) (deed : Option Deed) → Found p W mid new box tree n → CanReceive set W marks old.task (course_of old) box (counted (behind_at 0 old.body)) → Fits p (ToProbe box) (answer.Message tree n) deed → Went code set old (ToProbe box) deed new
@@ -172,7 +185,7 @@ module _ (set : Setting) (code : Code) (old : Fiber) (x : Asked) (new : Fiber) (
       let same = same_message tree shape w.shape has.received.has message in
       let s = record (counted (behind_at 0 old.body)) { frames = push_value (Ref has.root) (counted (behind_at 0 old.body)).frames; heap = has.mid.heap } in
       made (ToProbe box) (took box n w.shape) s deed (e ∙ ap (λ (z : List Token). Some (took box n z)) same) (λ b a r lt none. (lt, none)) w.noted
-      (has.stands ∙ as_found has.mid has.root has.received.same) has.roomy refl
+      (has.stands ∙ as_found has.mid has.root has.received.same) has.roomy refl refl
       (receive n tree w.shape has.mid.heap has.root (message_sound p tree w.shape (subst (IsMessage p tree) same message)) has.received.put)
 
   -- it pauses at the take
@@ -190,6 +203,7 @@ module _ (set : Setting) (code : Code) (old : Fiber) (x : Asked) (new : Fiber) (
         roomy = w.roomy;
         most = omega (arith, few, count);
         is-main = held.is-main ∙ sym w.main;
+        apart = apart_same set.program new.body.apart old.body.apart (ap (λ (f : Standing). f.aside) w.stands) held.apart;
         refused = λ other d. (
           omega (arith, some, count),
           ap (λ (t : ℕ). stands_at set t last) w.task ∙ (at ∙ (sym w.refused ∙ d)),
@@ -198,6 +212,31 @@ module _ (set : Setting) (code : Code) (old : Fiber) (x : Asked) (new : Fiber) (
       let lone : IsLone set new.task (course_of new) last = subst (λ (c : Course). IsLone set new.task c last) (sym w.course) (subst (λ (t : ℕ). IsLone set t (course_of old) last) (sym w.task) is) in
       subst (λ (o : Option Deed). Went code set old (ToTake box) o new) (sym e) (w.course, record { lone = last; is = lone; held = all }, (count, w.refused), omega (arith, few, count))
 
+  -- it pauses at the put
+  waits_so : (box : BoxName) (tree : List Object) (shape : List Token) (deed : Option Deed) → Waiting W mid new box tree shape → Holds set W marks old.task (course_of old) (waiting_at box (behind_at 0 (record old.body { apart = Some (record { tree = tree; shape = shape }) }))) →
+      stands_at set old.task last ≡ Some (wait.Put box) → IsMessage p tree shape → deed ≡ None → Went code set old (ToPutWait box shape) deed new
+  waits_so box tree shape deed w holds at message e =
+      let few = held.few in
+      let some = w.some in
+      let count : new.body.count ≡ old.body.count = ap (λ (f : Standing). f.done) w.stands in
+      let idle : new.idle ≡ false = w.idle ∙ held.busy in
+      let there : Holds set W marks new.task (course_of new) (standing_at 0 new.body) = subst (λ (c : Course). Holds set W marks new.task c (standing_at 0 new.body)) (sym w.course)
+      (subst (λ (t : ℕ). Holds set W marks t (course_of old) (standing_at 0 new.body)) (sym w.task) (subst (λ (f : Standing). Holds set W marks old.task (course_of old) f) (sym w.stands) holds)) in
+      let all : HoldsFiber W marks set new last = record {
+        body = subst (λ (z : Bool). StandsAs W marks set new.task (course_of new) last z new.body) (sym idle) there;
+        fresh = λ zero t. let never : ⊥ = omega (arith, count, zero, some) in absurd never;
+        roomy = w.roomy;
+        most = omega (arith, few, count);
+        is-main = held.is-main ∙ sym w.main;
+        apart = apart_same set.program new.body.apart (Some (record { tree = tree; shape = shape })) (ap (λ (f : Standing). f.aside) w.stands) message;
+        refused = λ other d. (
+          omega (arith, some, count),
+          ap (λ (t : ℕ). stands_at set t last) w.task ∙ (at ∙ (sym w.refused ∙ d)),
+        );
+      } in
+      let lone : IsLone set new.task (course_of new) last = subst (λ (c : Course). IsLone set new.task c last) (sym w.course) (subst (λ (t : ℕ). IsLone set t (course_of old) last) (sym w.task) is) in
+      subst (λ (o : Option Deed). Went code set old (ToPutWait box shape) o new) (sym e) (w.course, record { lone = last; is = lone; held = all }, (count, w.refused), omega (arith, few, count))
+
   abbrev GoesOn : Option Wish → Type 0
   GoesOn w = CanGoOn W marks set old.task (course_of old) last old.body w
 
@@ -205,7 +244,17 @@ module _ (set : Setting) (code : Code) (old : Fiber) (x : Asked) (new : Fiber) (
   by_answer : (q : Asked) (a : Answer) (deed : Option Deed) → Answered p W q a mid new → GoesOn (wished q) → (wish : Wish) → Some wish ≡ wished q → Fits p wish a deed → Went code set old wish deed new
   by_answer (asked.Put box shape) (answer.Sent n) deed w go wish e fits =
       subst (λ (z : Wish). Fits p z (answer.Sent n) deed → Went code set old z deed new) (sym (same_Some _ _ e))
-      (λ fit. passed (ToPut box shape.value) (plain (act.Put box n shape.value)) (counted (behind_at 0 old.body)) deed fit (λ b a r lt none. (lt, none)) w refl (go n)) fits
+      (λ fit. passed (ToPut box shape.value) (plain (act.Put box n shape.value)) (counted (behind_at 0 old.body)) deed fit (λ b a r lt none. (lt, none)) w refl refl (go n)) fits
+  by_answer (asked.PutWait box shape) (answer.Sent n) deed w go wish e fits =
+      subst (λ (z : Wish). Fits p z (answer.Sent n) deed → Went code set old z deed new) (sym (same_Some _ _ e))
+      (λ fit. passed (ToPutWait box shape.value) (plain (act.Put box n shape.value)) (taken_at (behind_at 0 old.body)) deed fit (λ b a r lt none. (lt, none)) w refl refl (go.1 n)) fits
+  by_answer (asked.PutWait box shape) (answer.Full tree same) deed w go wish e fits =
+      subst (λ (z : Wish). Fits p z (answer.Full tree same) deed → Went code set old z deed new) (sym (same_Some _ _ e))
+      (λ fit.
+      waits_so box tree shape.value deed (subst (λ (ts : List Token). Waiting W mid new box tree ts) fit.1 w) (go.0 tree) go.2 fit.2 fit.0) fits
+  by_answer (asked.Bound box most) answer.Done deed w go wish e fits =
+      subst (λ (z : Wish). Fits p z answer.Done deed → Went code set old z deed new) (sym (same_Some _ _ e))
+      (λ fit. passed (ToBound box most) (plain (act.Bound box most)) (counted (behind_at 0 old.body)) deed fit (λ b a r lt none. (lt, none)) w refl refl go) fits
   by_answer (asked.Take box) (answer.Message tree n) deed w go wish e fits =
       subst (λ (z : Wish). Fits p z (answer.Message tree n) deed → Went code set old z deed new) (sym (same_Some _ _ e)) (λ fit. take_came box tree n deed w go.1 fit) fits
   by_answer (asked.Take box) answer.Nothing deed w go wish e fits =
@@ -214,13 +263,13 @@ module _ (set : Setting) (code : Code) (old : Fiber) (x : Asked) (new : Fiber) (
       subst (λ (z : Wish). Fits p z (answer.Message tree n) deed → Went code set old z deed new) (sym (same_Some _ _ e)) (λ fit. probe_came box tree n deed w go.1 fit) fits
   by_answer (asked.Probe box) answer.Nothing deed w go wish e fits =
       subst (λ (z : Wish). Fits p z answer.Nothing deed → Went code set old z deed new) (sym (same_Some _ _ e))
-      (λ fit. passed (ToProbe box) (plain (act.Empty box)) (with_result (Some Null) (counted (behind_at 0 old.body))) deed fit (λ b a r lt none. (lt, none)) w refl go.0) fits
+      (λ fit. passed (ToProbe box) (plain (act.Empty box)) (with_result (Some Null) (counted (behind_at 0 old.body))) deed fit (λ b a r lt none. (lt, none)) w refl refl go.0) fits
   by_answer (asked.Start shape) (answer.Started n) deed w go wish e fits =
       subst (λ (z : Wish). Fits p z (answer.Started n) deed → Went code set old z deed new) (sym (same_Some _ _ e))
-      (λ fit. passed (ToStart shape.value) (plain (act.Start n shape.value)) (counted (behind_at 0 old.body)) deed fit (λ b a r lt none. (lt, none)) w refl (go n)) fits
+      (λ fit. passed (ToStart shape.value) (plain (act.Start n shape.value)) (counted (behind_at 0 old.body)) deed fit (λ b a r lt none. (lt, none)) w refl refl (go n)) fits
   by_answer (asked.Print shape) answer.Done deed w go wish e fits =
       subst (λ (z : Wish). Fits p z answer.Done deed → Went code set old z deed new) (sym (same_Some _ _ e))
-      (λ fit. passed (ToPrint shape.value) (plain (act.Print shape.value)) (counted (behind_at 0 old.body)) deed fit (λ b a r lt none. (lt, none)) w refl go) fits
+      (λ fit. passed (ToPrint shape.value) (plain (act.Print shape.value)) (counted (behind_at 0 old.body)) deed fit (λ b a r lt none. (lt, none)) w refl refl go) fits
   by_answer q a deed w go wish e fits = absurd w
 
 -- the clause of the call

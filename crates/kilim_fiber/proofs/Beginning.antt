@@ -18,7 +18,7 @@ use Rattle.kilim_run_state.specs.declared.frames.frames.Frames.{Frames}
 use Rattle.kilim_run_state.specs.frames.Calls.{activation, below_of}
 use Rattle.kilim_fiber_spec.specs.fiber_kin.Acts.{IsSound}
 use Rattle.kilim_run_board.specs.fibers.Fibers.{StandsFor}
-use Rattle.kilim_fiber_body.specs.Body.{calls_in, standing_at, RoomyIn}
+use Rattle.kilim_fiber_body.specs.Body.{aside_in, calls_in, standing_at, RoomyIn}
 use Rattle.kilim_fiber_body.specs.declared.code.Code.{Code}
 use Rattle.kilim_fiber_laws.specs.Fibers.{Holds}
 use Rattle.kilim_fiber_laws.specs.Laws.{new_course}
@@ -38,7 +38,7 @@ use Rattle.kilim_fiber_body.specs.declared.body.Body.{Body}
 use Rattle.kilim_fiber_body.specs.declared.body.Came.{Came}
 use Rattle.kilim_fiber_body.specs.declared.body.Came.TheVariants as came
 use Rattle.kilim_fiber.specs.Past.{deeds_of}
-use Rattle.kilim_fiber.specs.Fiber.{task_of, course_of, wished, EndsNext, HoldsFiber, ServesCode, StandsAs, idle_cause}
+use Rattle.kilim_fiber.specs.Fiber.{task_of, course_of, wished, EndsNext, HoldsFiber, IsApart, ServesCode, StandsAs, idle_cause}
 use Rattle.kilim_fiber.specs.Calls.{IsNew, IsBegun, WantsBy}
 use Rattle.kilim_fiber.specs.declared.fiber.Asked.{Asked}
 use Rattle.kilim_fiber.specs.declared.fiber.Fiber.{Fiber}
@@ -80,8 +80,8 @@ module _ (set : Setting) (code : Code) (served : ServesCode set code) where
   Stands f = StandsFor task_of course_of (HoldsFiber W marks) set f
 
   -- a fiber that is new stands for the course without deeds
-  new_stands : (c : ClassId) (b : Beginning) (o : Body) (f : Fiber) → IsNew c b o f → set.main ≡ c → o.count ≡ 0 → RoomyIn W o.frames → Arrives W marks set b o → Stands f
-  new_stands c b o f new main zero roomy a =
+  new_stands : (c : ClassId) (b : Beginning) (o : Body) (f : Fiber) → IsNew c b o f → set.main ≡ c → o.count ≡ 0 → o.apart ≡ None → RoomyIn W o.frames → Arrives W marks set b o → Stands f
+  new_stands c b o f new main zero none roomy a =
       let same : new_course b ≡ course_of f = λ i. record { beginning = sym new.beginning i; deeds = sym new.past i } in
       let as_new : (t : ℕ) → StandsAs W marks set t (course_of f) a.lone f.idle f.body = λ t.
       subst (λ (x : Course). StandsAs W marks set t x a.lone f.idle f.body) same
@@ -91,16 +91,17 @@ module _ (set : Setting) (code : Code) (served : ServesCode set code) where
         is = subst (λ (x : Course). IsLone set f.task x a.lone) same (a.is f.task);
         held = record {
           body = as_new f.task;
-          fresh = λ none t. as_new t;
+          fresh = λ counted t. as_new t;
           roomy = subst (λ (x : Body). RoomyIn W x.frames) (sym new.body) roomy;
           most = let count : f.body.count ≡ 0 = ap (λ (x : Body). x.count) new.body ∙ zero in omega (arith, count);
           is-main = main ∙ sym new.main;
+          apart = subst (λ (x : Body). IsApart set.program x.apart) (sym new.body) (subst (IsApart set.program) (sym none) tt);
           refused = λ v e. absurd (none-some v (sym new.refused ∙ e));
         };
       }
 
   abbrev begun_as : List Activation → Body → Standing
-  begun_as fs o = record { frames = fs; fiber = new_fiber; heap = o.heap; next = 0; done = 0; boxes = 0; kept = None }
+  begun_as fs o = record { frames = fs; fiber = new_fiber; heap = o.heap; next = 0; done = 0; boxes = 0; kept = None; aside = [] }
 
   abbrev Has : List Object → List Token → Body → Option Frames → Bool → Type 0
   Has tree shape o fr idle = (lone : Lone) × ((t : ℕ) → IsLone set t (new_course (Begun shape)) lone) × ((t : ℕ) → StandsAs W marks set t (new_course (Begun shape)) lone idle o)
@@ -119,7 +120,7 @@ module _ (set : Setting) (code : Code) (served : ServesCode set code) where
       let frames : begun_with W (executes_on W o.heap (Ref w.root)) (Ref w.root ∷ a_value.Fiber ∷ []) ≡ Some (activation fr.top ∷ below_of fr) = w.frames ∙ ap (λ (z : Option Frames). Some (calls_in z)) e in
       let of = λ (t : ℕ). tasks_begin set W marks served.can t tree shape o.heap w.root 0 (activation fr.top) (below_of fr) sound w.put frames in
       let same : begun_as (activation fr.top ∷ below_of fr) o ≡ standing_at 0 o =
-      λ i. record { frames = ap calls_in (sym e) i; fiber = sym w.fresh.records i; heap = o.heap; next = 0; done = sym w.fresh.count i; boxes = sym w.fresh.boxes i; kept = sym w.kept i } in
+      λ i. record { frames = ap calls_in (sym e) i; fiber = sym w.fresh.records i; heap = o.heap; next = 0; done = sym w.fresh.count i; boxes = sym w.fresh.boxes i; kept = sym w.kept i; aside = ap aside_in (sym w.fresh.apart) i } in
       let lone = (of 0).lone in
       (lone, λ t. other_number set 0 t (new_course (Begun shape)) lone refl (of 0).is, λ t. subst (λ (z : Standing). Holds set W marks t (new_course (Begun shape)) z) same (of t).holds)
 
@@ -127,7 +128,7 @@ module _ (set : Setting) (code : Code) (served : ServesCode set code) where
   begun_stands main tree shape f is-main sound w =
       let o = w.body in
       let has = begun_in tree shape o sound w.begins o.frames refl in
-      new_stands main (Begun shape) o f w.new is-main w.begins.fresh.count w.begins.fresh.roomy
+      new_stands main (Begun shape) o f w.new is-main w.begins.fresh.count w.begins.fresh.apart w.begins.fresh.roomy
       (record { lone = has.0; is = has.1; stands = λ t. subst (λ (z : Bool). StandsAs W marks set t (new_course (Begun shape)) has.0 z o) (sym w.begins.fresh.idle) (has.2 t) })
 
   -- that of task 0, which has a frame
@@ -136,10 +137,10 @@ module _ (set : Setting) (code : Code) (served : ServesCode set code) where
       let object : new_object code.plain main ≡ new_object set.program set.main = λ i. new_object (sym served.program i) (sym is-main i) in
       let frames : begun_with W (constructor_of W set.main) (Ref w.root ∷ []) ≡ Some (calls_in o.frames) = ap (λ (m : ClassId). begun_with W (constructor_of W m) (Ref w.root ∷ [])) is-main ∙ w.frames in
       let of = λ (t : ℕ). first_begins set W marks served.can t w.root 0 (calls_in o.frames) frames in
-      let same : record { frames = calls_in o.frames; fiber = new_fiber; heap = insert empty w.root (new_object set.program set.main); next = 0; done = 0; boxes = 0; kept = Some w.root } ≡ standing_at 0 o =
-      λ i. record { frames = calls_in o.frames; fiber = sym w.fresh.records i; heap = (ap (insert empty w.root) (sym object) ∙ sym w.heap) i; next = 0; done = sym w.fresh.count i; boxes = sym w.fresh.boxes i; kept = sym w.kept i } in
+      let same : record { frames = calls_in o.frames; fiber = new_fiber; heap = insert empty w.root (new_object set.program set.main); next = 0; done = 0; boxes = 0; kept = Some w.root; aside = [] } ≡ standing_at 0 o =
+      λ i. record { frames = calls_in o.frames; fiber = sym w.fresh.records i; heap = (ap (insert empty w.root) (sym object) ∙ sym w.heap) i; next = 0; done = sym w.fresh.count i; boxes = sym w.fresh.boxes i; kept = sym w.kept i; aside = ap aside_in (sym w.fresh.apart) i } in
       let lone = (of 0).lone in
-      new_stands main Boot o f (subst (λ (x : Beginning). IsNew main x o f) boot new) is-main w.fresh.count w.fresh.roomy (record {
+      new_stands main Boot o f (subst (λ (x : Beginning). IsNew main x o f) boot new) is-main w.fresh.count w.fresh.apart w.fresh.roomy (record {
         lone = lone;
         is = λ t. other_number set 0 t (new_course Boot) lone refl (of 0).is;
         stands = λ t. subst (λ (z : Bool). StandsAs W marks set t (new_course Boot) lone z o) (sym busy) (subst (λ (z : Standing). Holds set W marks t (new_course Boot) z) same (of t).holds);
@@ -157,6 +158,7 @@ numbered W marks set f k none zero s = record {
     roomy = s.held.roomy;
     most = s.held.most;
     is-main = s.held.is-main;
+    apart = s.held.apart;
     refused = λ v e. let lt = (s.held.refused v e).0 in let absurdly : ⊥ = omega (arith, lt, zero) in absurd absurdly;
   };
 }

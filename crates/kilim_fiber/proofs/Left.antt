@@ -21,7 +21,7 @@ use Rattle.kilim_fiber_laws.specs.woven_kin.history.History.{state_in, state_of,
 use Rattle.kilim_fiber_laws.specs.woven_kin.Alike.{FibersKin, Like, RecordsKin}
 use Rattle.kilim_fiber_laws.specs.woven_kin.Standing.{Standing}
 use Rattle.kilim_fiber_spec.specs.lone.Law.{lone_at, lone_frames}
-use Rattle.kilim_fiber_spec.specs.Acts.{World}
+use Rattle.kilim_fiber_spec.specs.Acts.{World, together}
 use Rattle.kilim_fiber_spec.specs.Fibers.{Fib, Fiber_at, Rec, Resting, wsteps}
 use Rattle.kilim_fiber_spec.specs.Links.{Forms, Link, Lk, first_record, next_records, record_of, rev_onto, u_frames}
 use Rattle.kilim_fiber_spec.specs.Serves.{IsThread, StandsFor}
@@ -93,17 +93,21 @@ module _ (set : Setting) (W : Program) (marks : List (List Bool)) (form : Forms 
     locals : List Value
     stack : List Value
     self : Value
-    is : u ≡ Run method place locals stack self (u_frames links) w
+    world : World
+    deeds : world.deeds ≡ w.deeds
+    acts : world.acts ≡ w.acts
+    is : u ≡ Run method place locals stack self (u_frames links) world
 
   runs : (leaf : Native) (box : Value) (k : Link) (links : List Link) (w : World) (u : Thread) → IsThread set W marks form leaf box k links u w → IsRun links w u
-  runs native.Get box (Lk m from to i callee s l wl x old was) links w u e = record { method = m; place = from; locals = l; stack = e.1; self = x; is = e.4 }
-  runs _ box (Lk m from to i callee s l wl x old was) links w u e = record { method = m; place = to; locals = l; stack = s; self = x; is = e }
+  runs native.Get box (Lk m from to i callee s l wl x old was) links w u e = record { method = m; place = from; locals = l; stack = e.1; self = x; world = w; deeds = refl; acts = refl; is = e.4 }
+  runs native.PutWait box (Lk m from to i callee s l wl x old was) links w u e = record { method = m; place = from; locals = l; stack = e.4; self = x; world = together e.0.heap e.1 w; deeds = refl; acts = refl; is = e.7 }
+  runs _ box (Lk m from to i callee s l wl x old was) links w u e = record { method = m; place = to; locals = l; stack = s; self = x; world = w; deeds = refl; acts = refl; is = e }
 
 module _ (set : Setting) (t : ℕ) (c : Course) where
   -- all deeds of the course are done
   all_done : (w : World) (m : MethodId) (p : ℕ) (ls s : List Value) (x : Value) (links : List Link) → w.deeds ≡ [] → w.acts ≡ acts_of c.deeds [] → ThreadAlong set t c (Run m p ls s x (u_frames links) w) → IsOf set t c (lone_at m p ls s (u_frames links) w)
   all_done w m p ls s x links none done a =
-      let held = a.1 in
+      let held = a.2 in
       let all : held.were ≡ c.deeds = sym (append_none held.were) ∙ (ap (λ (ds : List Deed). held.were ++ ds) (sym none) ∙ held.all) in
       let like : Likewise c.deeds held.done = subst (λ (ds : List Deed). Likewise ds held.done) all held.like in
       let same = same_deeds c.deeds held.done [] [] like (sym held.acted ∙ done) in
@@ -155,8 +159,8 @@ module _ (set : Setting) (W : Program) (marks : List (List Bool)) (served : CanS
       let many = many_kin like.of (record_of set W marks form s.4) (first_record set W marks form s.1 s.5) (next_records set W marks form s.1 s.5) f.fiber (subst (λ (g : Fib). FibersKin like.of g f.fiber) is like.is.fiber) in
       record {
         left = many.left;
-        here = lone_at run.method run.place run.locals run.stack (u_frames s.3) w;
-        is = all_done set t c w run.method run.place run.locals run.stack run.self s.3 refl refl (subst (ThreadAlong set t c) run.is a);
+        here = lone_at run.method run.place run.locals run.stack (u_frames s.3) run.world;
+        is = all_done set t c run.world run.method run.place run.locals run.stack run.self s.3 run.deeds run.acts (subst (ThreadAlong set t c) run.is a);
         count = many.many ∙ as_many s.1 s.2 s.4 s.3 s.5 s.6;
       }
 

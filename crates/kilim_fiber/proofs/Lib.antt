@@ -6,3 +6,5 @@ pub mod Resting
 pub mod Left
 pub mod Rested
 pub mod Answered
+pub mod Kept
+pub mod Bounding

@@ -51,7 +51,7 @@ module _ (code : Code) (limits : Limits) where
 
     keeps : (set : Setting) → ServesCode set code → set.limits ≡ limits → (s : StandsIn set f) → Keeps set f.task (course_of f) b.records
     keeps set served is-limits s =
-        keeps_each set code.program code.counted served.can f.task (course_of f) (standing_at 0 b) (comes set served is-limits s) (ap calls_in none)
+        keeps_each set code.program code.counted served.can f.task (course_of f) (standing_at 0 b) (comes set served is-limits s).next (ap calls_in none)
 
     count : (q : Asked) (refused : Option Waits) → records_of (now q refused) ≡ 1 + length (deeper_of b.records)
     count q refused = ap (λ (o : Option Frames). records_in o f.idle b.records) none ∙ ap (λ (z : Bool). records_in None z b.records) busy
@@ -89,6 +89,8 @@ module _ (code : Code) (limits : Limits) where
     gives : (a : Came) (w : Wants Fiber) → NoFrameIsLeft a b → Came_to f b a → WantsBy code.program f.main a w q → Gives f (after a) w
     gives came.On w none comes e = absurd e
     gives (came.Puts box tree shape) w none comes e = giving f (after (came.Puts box tree shape)) w _ e.0 tt
+    gives (came.PutWaits box tree shape) w none comes e = giving f (after (came.PutWaits box tree shape)) w _ e.0 tt
+    gives (came.Bounds box most) w none comes e = giving f (after (came.Bounds box most)) w _ e.0 tt
     gives (came.Takes box) w none comes e = giving f (after (came.Takes box)) w _ e.0 tt
     gives (came.Probes box) w none comes e = giving f (after (came.Probes box)) w _ e.0 tt
     gives (came.Starts tree shape) w none comes e = giving f (after (came.Starts tree shape)) w (wants.Start e.0 shape) e.1 tt

@@ -18,7 +18,7 @@ use Rattle.kilim_fiber.proofs.Ends.{own_end, own_wish}
 use Rattle.kilim_run_model.specs.State.{Setting}
 use Rattle.kilim_fiber_spec.specs.fiber_kin.Acts.{IsSound}
 use Rattle.kilim_run_board.specs.fibers.Fibers.{Asks, CanRun, Resumed, RestsRightly, StandsFor, StartsAtNone, StartsFresh}
-use Rattle.kilim_run_board.specs.fibers.Wishes.{IsMessage, Wish, ToPut, ToTake, ToProbe, ToStart, ToPrint, ToEnd, Wishes, end_wish, wish_of}
+use Rattle.kilim_run_board.specs.fibers.Wishes.{IsMessage, Wish, ToPut, ToPutWait, ToBound, ToTake, ToProbe, ToStart, ToPrint, ToEnd, Wishes, end_wish, wish_of}
 use Rattle.kilim_run_board.specs.declared.fibers.Wants.{Wants}
 use Rattle.kilim_run_board.specs.declared.fibers.Wants.TheVariants as wants
 use Rattle.kilim_run_state.specs.declared.frames.frames.Frames.{Frames}
@@ -33,10 +33,11 @@ use Rattle.kilim_fiber_body.specs.declared.code.Code.{Code}
 use Rattle.kilim_fiber_laws.specs.Fibers.{Holds}
 use Rattle.kilim_fiber.specs.Calls.{EndsIdle, HasWanted, MayAsk, RestsAt, WantsBy, asks_by, is_rest}
 use Rattle.kilim_fiber.specs.Clauses.{Resumes}
-use Rattle.kilim_fiber.specs.Fiber.{task_of, course_of, wished, AskedOf, CameTo, CanGoOn, EndsNext, HoldsFiber, ServesCode, StandsAs, idle_cause}
+use Rattle.kilim_fiber.specs.Fiber.{task_of, course_of, wished, AskedOf, CameTo, CanGoOn, EndsNext, HoldsFiber, IsApart, ServesCode, StandsAs, idle_cause}
 use Rattle.kilim_fiber.specs.declared.fiber.Asked.{Asked}
 use Rattle.kilim_fiber.specs.declared.fiber.Fiber.{Fiber}
 use Rattle.kilim_fiber.proofs.Beginning.{begun_course, begun_stands}
+use Rattle.kilim_fiber.proofs.Bounding.{bounds_are_new}
 use Rattle.kilim_fiber.proofs.Coming.{came_to, few_to, ready_on}
 
 -- the setting of a run
@@ -64,7 +65,7 @@ module _ (code : Code) (limits : Limits) (f : Fiber) (busy : f.idle ≡ false) w
   pub came_by : (new : Body) (r : Result Came NoMemory) → IfOk r (λ a. Reached (setting_of code limits f.main) new a) → IfOk r (λ a. IsWanting a ≡ true) → IfOk r (λ a. HasRoomFor code.program new a) →
       (set : Setting) → ServesCode set code → set.limits ≡ limits → (s : Stands set) → IfOk r (λ a. CameTo code.program code.counted set f.task (course_of f) s.lone new a)
   came_by new (Ok a) reaches wants room set served is-limits s =
-      came_to set code served f.task (course_of f) s.lone s.is (standing_at 0 f.body) (holds set s) new a
+      came_to set code served f.task (course_of f) s.lone s.is (standing_at 0 f.body) (holds set s) f.body.apart refl s.held.apart new a
       (subst (λ (z : Setting). Reached z new a) (sym (same_setting set code limits f.main served.program is-limits s.held.is-main)) reaches) room wants
   came_by new (Err e) reaches wants room set served is-limits s = tt
 
@@ -75,6 +76,8 @@ frames_there W new None room = room
 
 frames_by : (W : Program) (new : Body) (a : Came) → HasRoomFor W new a → IsWanting a ≡ true → asks_by a ≡ true → HasFrames new.frames
 frames_by W new (came.Puts box tree shape) room wants asks = room
+frames_by W new (came.PutWaits box tree shape) room wants asks = room
+frames_by W new (came.Bounds box most) room wants asks = room
 frames_by W new (came.Takes box) room wants asks = frames_there W new new.frames room
 frames_by W new (came.Probes box) room wants asks = frames_there W new new.frames room
 frames_by W new (came.Starts tree shape) room wants asks = room
@@ -177,16 +180,17 @@ module _ (code : Code) (limits : Limits) where
     abbrev rested : Asked → Fiber
     rested a = record f { body = b; asked = a; refused = None; rests = true }
 
-    stands : (a : Asked) → 0 < b.count → (set : Setting) → set.limits ≡ limits → (s : StandsIn set f) → Holds set code.program code.counted f.task (course_of f) (standing_at 0 b) → StandsIn set (rested a)
+    stands : (a : Asked) → 0 < b.count → (set : Setting) → set.limits ≡ limits → (s : StandsIn set f) → CameTo code.program code.counted set f.task (course_of f) s.lone b came.Rests → StandsIn set (rested a)
     stands a some set is-limits s here = record {
       lone = s.lone;
       is = s.is;
       held = record {
-        body = subst (λ (z : Bool). StandsAs code.program code.counted set f.task (course_of f) s.lone z b) (sym busy) here;
+        body = subst (λ (z : Bool). StandsAs code.program code.counted set f.task (course_of f) s.lone z b) (sym busy) here.next;
         fresh = λ zero t. let never : ⊥ = omega (arith, some, zero) in absurd never;
         roomy = roomy;
         most = let same = ap (λ (l : Limits). l.steps) is-limits in omega (arith, most, same);
         is-main = s.held.is-main;
+        apart = here.apart;
         refused = λ v e. absurd (none-some v e);
       };
     }
@@ -217,8 +221,8 @@ module _ (code : Code) (limits : Limits) where
       now a q = record f { body = b; asked = q; rests = is_rest a }
 
       asks : (a : Came) (q : Asked) (wish : Wish) → MayAsk limits mid → wished q ≡ Some wish → (set : Setting) → set.limits ≡ limits → (s : StandsIn set f) → wish_of (next_action set f.task s.lone) ≡ Some wish →
-          CanGoOn code.program code.counted set f.task (course_of f) s.lone b (Some wish) → Asks task_of course_of (AskedOf code.program code.counted) set (now a q) wish
-      asks a q wish may own set is-limits s next goes = record {
+          CanGoOn code.program code.counted set f.task (course_of f) s.lone b (Some wish) → IsApart set.program b.apart → Asks task_of course_of (AskedOf code.program code.counted) set (now a q) wish
+      asks a q wish may own set is-limits s next goes apart = record {
         wishes = record { lone = s.lone; is = s.is; next = next };
         is-asked = record {
           goes = subst (λ (z : Option Wish). CanGoOn code.program code.counted set f.task (course_of f) s.lone b z) (sym own) goes;
@@ -229,6 +233,7 @@ module _ (code : Code) (limits : Limits) where
           few = let few = may.few in let same = ap (λ (l : Limits). l.steps) is-limits in omega (arith, few, same);
           room = may.room;
           is-main = s.held.is-main;
+          apart = apart;
         };
       }
 
@@ -254,26 +259,32 @@ module _ (code : Code) (limits : Limits) where
       gives came.On q w comes more-rested may e = absurd e
       gives (came.Puts box tree shape) q w comes more-rested may e =
           wanting (came.Puts box tree shape) q w (wants.Put box tree shape) e.0 (gives_by (came.Puts box tree shape) q (wants.Put box tree shape)
-          (λ set served is-limits s. let has = comes set served is-limits s in (asks (came.Puts box tree shape) q (ToPut box shape) (may refl) e.1 set is-limits s has.0 has.1, sound_message set.program tree shape has.2)) none tt tt)
+          (λ set served is-limits s. let at = comes set served is-limits s in let has = at.next in (asks (came.Puts box tree shape) q (ToPut box shape) (may refl) e.1 set is-limits s has.0 has.1 at.apart, sound_message set.program tree shape has.2)) none tt tt)
+      gives (came.PutWaits box tree shape) q w comes more-rested may e =
+          wanting (came.PutWaits box tree shape) q w (wants.PutWait box tree shape) e.0 (gives_by (came.PutWaits box tree shape) q (wants.PutWait box tree shape)
+          (λ set served is-limits s. let at = comes set served is-limits s in let has = at.next in (asks (came.PutWaits box tree shape) q (ToPutWait box shape) (may refl) e.1 set is-limits s has.0 has.1 at.apart, sound_message set.program tree shape has.2)) none tt tt)
+      gives (came.Bounds box most) q w comes more-rested may e =
+          wanting (came.Bounds box most) q w (wants.Bound box most) e.0 (gives_by (came.Bounds box most) q (wants.Bound box most)
+          (λ set served is-limits s. let at = comes set served is-limits s in let has = at.next in (asks (came.Bounds box most) q (ToBound box most) (may refl) e.1 set is-limits s has.0 has.1 at.apart, bounds_are_new set code.program code.counted served.can)) none tt tt)
       gives (came.Takes box) q w comes more-rested may e =
           wanting (came.Takes box) q w (wants.Take box) e.0 (gives_by (came.Takes box) q (wants.Take box)
-          (λ set served is-limits s. let has = comes set served is-limits s in asks (came.Takes box) q (ToTake box) (may refl) e.1 set is-limits s has.0 (second has)) none tt tt)
+          (λ set served is-limits s. let at = comes set served is-limits s in asks (came.Takes box) q (ToTake box) (may refl) e.1 set is-limits s at.next.0 (second at.next) at.apart) none tt tt)
       gives (came.Probes box) q w comes more-rested may e =
           wanting (came.Probes box) q w (wants.Probe box) e.0 (gives_by (came.Probes box) q (wants.Probe box)
-          (λ set served is-limits s. let has = comes set served is-limits s in asks (came.Probes box) q (ToProbe box) (may refl) e.1 set is-limits s has.0 (second has)) none tt tt)
+          (λ set served is-limits s. let at = comes set served is-limits s in asks (came.Probes box) q (ToProbe box) (may refl) e.1 set is-limits s at.next.0 (second at.next) at.apart) none tt tt)
       gives (came.Starts tree shape) q w comes more-rested may e =
           let new = e.0 in
           let begun = e.3 in
           wanting (came.Starts tree shape) q w (wants.Start new shape) e.1 (gives_by (came.Starts tree shape) q (wants.Start new shape)
           (λ set served is-limits s.
-          let has = comes set served is-limits s in (
-            asks (came.Starts tree shape) q (ToStart shape) (may refl) e.2 set is-limits s has.0 has.1,
+          let at = comes set served is-limits s in let has = at.next in (
+            asks (came.Starts tree shape) q (ToStart shape) (may refl) e.2 set is-limits s has.0 has.1 at.apart,
             begun_course code.program f.main tree shape new begun,
             begun_stands set code served f.main tree shape new s.held.is-main has.2 begun,
           )) none (begun.new.rests, begun.new.refused) (ap (λ (x : Body). x.count) begun.new.body ∙ begun.begins.fresh.count))
       gives (came.Prints shape) q w comes more-rested may e =
           wanting (came.Prints shape) q w (wants.Print shape) e.0 (gives_by (came.Prints shape) q (wants.Print shape)
-          (λ set served is-limits s. let has = comes set served is-limits s in asks (came.Prints shape) q (ToPrint shape) (may refl) e.1 set is-limits s has.0 has.1) none tt tt)
+          (λ set served is-limits s. let at = comes set served is-limits s in let has = at.next in asks (came.Prints shape) q (ToPrint shape) (may refl) e.1 set is-limits s has.0 has.1 at.apart) none tt tt)
       gives came.Rests q w comes more-rested may e =
           let lt = more-rested refl in
           wanting came.Rests q w (wants.Rest None) e (gives_by came.Rests q (wants.Rest None)
@@ -282,7 +293,7 @@ module _ (code : Code) (limits : Limits) where
           (none, lt, refl) tt tt)
       gives (came.Ends why) q w comes more-rested may e =
           wanting (came.Ends why) q w (wants.End why) e (gives_by (came.Ends why) q (wants.End why)
-          (λ set served is-limits s. let has = comes set served is-limits s in record { lone = s.lone; is = s.is; next = ap wish_of has.1 ∙ own_wish why (own_end set f.task s.lone why has.0 has.1) }) none tt tt)
+          (λ set served is-limits s. let has = (comes set served is-limits s).next in record { lone = s.lone; is = s.is; next = ap wish_of has.1 ∙ own_wish why (own_end set f.task s.lone why has.0 has.1) }) none tt tt)
 
   -- ---- the branches of the call
 

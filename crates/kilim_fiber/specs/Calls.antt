@@ -16,7 +16,7 @@ use Rattle.kilim_run_model.specs.declared.waits.Waits.TheVariants as wait
 use Rattle.kilim_run_model.specs.declared.deed.Beginning.{Beginning}
 use Rattle.kilim_run_model.specs.declared.deed.Beginning.TheVariants.{Begun}
 use Rattle.kilim_run_model.specs.declared.deed.Deed.{Deed}
-use Rattle.kilim_run_board.specs.fibers.Wishes.{ToPut, ToTake, ToProbe, ToStart, ToPrint}
+use Rattle.kilim_run_board.specs.fibers.Wishes.{ToPut, ToPutWait, ToBound, ToTake, ToProbe, ToStart, ToPrint}
 use Rattle.kilim_run_board.specs.declared.fibers.Answer.{Answer}
 use Rattle.kilim_run_board.specs.declared.fibers.Answer.TheVariants as answer
 use Rattle.kilim_run_board.specs.declared.fibers.Wants.{Wants}
@@ -24,7 +24,7 @@ use Rattle.kilim_run_board.specs.declared.fibers.Wants.TheVariants as wants
 use Rattle.kilim_run_trees.specs.Shaping.{Suits}
 use Rattle.kilim_fiber_laws.specs.woven_kin.history.History.{took}
 use Rattle.kilim_fiber_laws.specs.woven_kin.Standing.{Standing}
-use Rattle.kilim_fiber_laws.specs.woven_kin.Nexts.{counted, paused_at, with_result}
+use Rattle.kilim_fiber_laws.specs.woven_kin.Nexts.{counted, paused_at, taken_at, waiting_at, with_result}
 use Rattle.kilim_fiber_body.specs.Answers.{HasFound, HasTaken}
 use Rattle.kilim_fiber_body.specs.Begins.{BodyBegins}
 use Rattle.kilim_fiber_body.specs.Body.{standing_at, behind_at, HasFrames, RoomyIn}
@@ -58,6 +58,8 @@ pub record IsBegun (W : Program) (main : ClassId) (tree : List Object) (shape : 
 abbrev pub WantsBy : Program → ClassId → Came → Wants Fiber → Asked → Type 0
 WantsBy W main came.On w a = ⊥
 WantsBy W main (came.Puts box tree shape) w a = (w ≡ wants.Put box tree shape) × (wished a ≡ Some (ToPut box shape))
+WantsBy W main (came.PutWaits box tree shape) w a = (w ≡ wants.PutWait box tree shape) × (wished a ≡ Some (ToPutWait box shape))
+WantsBy W main (came.Bounds box most) w a = (w ≡ wants.Bound box most) × (wished a ≡ Some (ToBound box most))
 WantsBy W main (came.Takes box) w a = (w ≡ wants.Take box) × (wished a ≡ Some (ToTake box))
 WantsBy W main (came.Probes box) w a = (w ≡ wants.Probe box) × (wished a ≡ Some (ToProbe box))
 WantsBy W main (came.Starts tree shape) w a = (new : Fiber) × (w ≡ wants.Start new shape) × (wished a ≡ Some (ToStart shape)) × IsBegun W main tree shape new
@@ -102,9 +104,23 @@ pub record Refused (W : Program) (old new : Fiber) (box : BoxName) : Type 0 wher
   pub refused : new.refused ≡ Some (wait.Take box)
   pub some : 0 < old.body.count
 
+-- a put was answered that its mailbox is full
+pub record Waiting (W : Program) (old new : Fiber) (box : BoxName) (tree : List Object) (shape : List Token) : Type 0 where
+  pub task : new.task ≡ old.task
+  pub main : new.main ≡ old.main
+  pub idle : new.idle ≡ old.idle
+  pub course : course_of new ≡ course_of old
+  pub stands : standing_at 0 new.body ≡ waiting_at box (behind_at 0 (record old.body { apart = Some (record { tree = tree; shape = shape }) }))
+  pub roomy : RoomyIn W new.body.frames
+  pub refused : new.refused ≡ Some (wait.Put box)
+  pub some : 0 < old.body.count
+
 -- what comes of an answer to what was asked; other answers don't come
 abbrev pub Answered : Program → Program → Asked → Answer → Fiber → Fiber → Type 0
 Answered p W (asked.Put box shape) (answer.Sent n) old new = Passed W old new (plain (act.Put box n shape.value)) (counted (behind_at 0 old.body))
+Answered p W (asked.PutWait box shape) (answer.Sent n) old new = Passed W old new (plain (act.Put box n shape.value)) (taken_at (behind_at 0 old.body))
+Answered p W (asked.PutWait box shape) (answer.Full tree same) old new = Waiting W old new box tree same
+Answered p W (asked.Bound box most) answer.Done old new = Passed W old new (plain (act.Bound box most)) (counted (behind_at 0 old.body))
 Answered p W (asked.Take box) (answer.Message tree n) old new = Taken p W old new box tree n
 Answered p W (asked.Take box) answer.Nothing old new = Refused W old new box
 Answered p W (asked.Probe box) (answer.Message tree n) old new = Found p W old new box tree n
@@ -116,6 +132,9 @@ Answered p W a b old new = ⊥
 -- such an answer comes where that was asked
 abbrev pub IsAnswerTo : Asked → Answer → Type 0
 IsAnswerTo (asked.Put box shape) (answer.Sent n) = Unit {0}
+IsAnswerTo (asked.PutWait box shape) (answer.Sent n) = Unit {0}
+IsAnswerTo (asked.PutWait box shape) (answer.Full tree same) = Unit {0}
+IsAnswerTo (asked.Bound box most) answer.Done = Unit {0}
 IsAnswerTo (asked.Take box) (answer.Message tree n) = Unit {0}
 IsAnswerTo (asked.Take box) answer.Nothing = Unit {0}
 IsAnswerTo (asked.Probe box) (answer.Message tree n) = Unit {0}

@@ -14,6 +14,7 @@ deed_of (did.Take box n shape) = took box n shape.value
 deed_of (did.Empty box) = plain (act.Empty box)
 deed_of (did.Start n shape) = plain (act.Start n shape.value)
 deed_of (did.Print shape) = plain (act.Print shape.value)
+deed_of (did.Bound box most) = plain (act.Bound box most)
 
 abbrev pub deeds_of : Past → List Deed
 deeds_of Nothing = []

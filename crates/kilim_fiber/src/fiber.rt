@@ -7,7 +7,7 @@ ghost use Rattle.std.specs.Prelude.{List, [], Option};
 ghost use Rattle.kilim_run_model.specs.declared.deed.Beginning.TheVariants.{Boot};
 ghost use Rattle.kilim_run_model.specs.declared.deed.Deed.{Deed};
 ghost use Rattle.kilim_run_board.specs.fibers.Fibers.{Asks, CanAnswer, CanRun, Fits, IsNewCourse, StandsFor};
-ghost use Rattle.kilim_fiber_laws.specs.woven_kin.Nexts.{counted, with_result};
+ghost use Rattle.kilim_fiber_laws.specs.woven_kin.Nexts.{counted, taken_at, with_result};
 ghost use Rattle.kilim_fiber_body.specs.Reach.{IsWanting};
 ghost use Rattle.kilim_fiber_body.specs.Body.{behind_at, RoomyIn, RoomIn, HasFrames};
 ghost use Rattle.std.specs.List.{AllByRecursion};
@@ -17,11 +17,12 @@ ghost use Rattle.kilim_fiber.specs.Past.{deed_of};
 ghost use Rattle.kilim_fiber.specs.Fiber.{task_of, course_of, HoldsFiber, AskedOf, ServesCode};
 ghost use Rattle.kilim_fiber.specs.Records.{records_of};
 ghost use Rattle.kilim_fiber.specs.Clauses.{Resumes, RestsInRecords, Went};
-ghost use Rattle.kilim_fiber.specs.Calls.{IsNew, IsBegun, EndsIdle, RestsAt, HasWanted, MayAsk, asks_by, is_rest, IsAnswerTo, WantsBy, Passed, Taken, Found, Refused, Answered, AnswerSuits, takes_value};
+ghost use Rattle.kilim_fiber.specs.Calls.{IsNew, IsBegun, EndsIdle, RestsAt, HasWanted, MayAsk, asks_by, is_rest, IsAnswerTo, WantsBy, Passed, Taken, Found, Refused, Waiting, Answered, AnswerSuits, takes_value};
 
 use crate::past::{Did, Past, begun, no_past, note};
 use kilim_fiber_body::{
-    Body, Came, Code, begun_body, done, first_body, found, found_none, pause, reach, take,
+    Body, Came, Code, begun_body, done, first_body, found, found_none, pause, put_done, reach,
+    take, wait,
 };
 use kilim_program::{BoxName, ClassId, Program};
 use kilim_run_board::fibers::{Answer, Wants};
@@ -37,6 +38,8 @@ use std::snapshot::Snapshot;
 pub enum Asked {
     Nothing,
     Put(BoxName, Snapshot<Shape>),
+    PutWait(BoxName, Snapshot<Shape>),
+    Bound(BoxName, u32),
     Take(BoxName),
     Probe(BoxName),
     Start(Snapshot<Shape>),
@@ -56,7 +59,7 @@ pub struct Fiber {
     // its `execute` is built in
     idle: bool,
     asked: Asked,
-    // what it waits for: its take was just answered nothing
+    // what it waits for: its take was just answered nothing, or its put that the mailbox is full
     refused: Option<Waits>,
     rests: bool,
 }
@@ -114,6 +117,16 @@ fn wanted(
             let kept = Snapshot::of(&shape);
             Ok((Wants::Put(mailbox, tree, shape), Asked::Put(mailbox, kept)))
         }
+        Came::PutWaits(mailbox, tree, shape) => {
+            let kept = Snapshot::of(&shape);
+            Ok((
+                Wants::PutWait(mailbox, tree, shape),
+                Asked::PutWait(mailbox, kept),
+            ))
+        }
+        Came::Bounds(mailbox, most) => {
+            Ok((Wants::Bound(mailbox, most), Asked::Bound(mailbox, most)))
+        }
         Came::Takes(mailbox) => Ok((Wants::Take(mailbox), Asked::Take(mailbox))),
         Came::Probes(mailbox) => Ok((Wants::Probe(mailbox), Asked::Probe(mailbox))),
         Came::Starts(tree, shape) => {
@@ -153,6 +166,55 @@ impl Fiber {
     {
         found_none(&code.program, &mut self.body);
         note(&mut self.past, did);
+    }
+
+    // A put that may wait is made, and it notes the deed.
+    fn put_on(&mut self, code: &Code, did: Did)
+        requires frames { HasFrames self.old.body.frames }
+        requires roomy { RoomyIn code.now.program self.old.body.frames }
+        requires few { self.old.body.count + 1 < 2 ^ 64 }
+        ensures { Passed code.now.program self.old self.new (deed_of did) (taken_at (behind_at 0 self.old.body)) }
+    {
+        put_done(self.alloc, &code.program, &mut self.body);
+        note(&mut self.past, did);
+    }
+
+    // No task takes or puts before its first instruction.
+    fn has_begun(&self) -> Result<(), NoMemory>
+        ensures { OnOk result (0 < self.now.body.count) }
+    {
+        if self.body.count == 0 {
+            // unmet: a `get` and a `putw` have operands, and the first frame has none
+            return Err(unmet());
+        }
+        Ok(())
+    }
+
+    // A put is answered that its mailbox is full: it pauses, and its tree stands apart.
+    fn wait_at(
+        &mut self,
+        code: &Code,
+        mailbox: BoxName,
+        tree: Tree,
+        shape: Shape,
+    ) -> Result<(), NoMemory>
+        requires frames { HasFrames self.old.body.frames }
+        requires roomy { RoomyIn code.now.program self.old.body.frames }
+        ensures { OnOk result (Waiting code.now.program self.old self.new mailbox tree shape) }
+    {
+        let Ok(()) = self.has_begun() else {
+            return Err(NoMemory);
+        };
+        wait(
+            self.alloc,
+            &code.program,
+            mailbox,
+            tree,
+            shape,
+            &mut self.body,
+        );
+        self.refused = Some(Waits::Put(mailbox));
+        Ok(())
     }
 
     // A message comes to a `get`.
@@ -203,16 +265,15 @@ impl Fiber {
         Ok(())
     }
 
-    // A take is answered nothing: it pauses. No task takes before its first instruction.
+    // A take is answered nothing: it pauses.
     fn refuse(&mut self, code: &Code, mailbox: BoxName) -> Result<(), NoMemory>
         requires roomy { RoomyIn code.now.program self.old.body.frames }
         requires room { RoomIn code.now.program self.old.body.frames }
         ensures { OnOk result (Refused code.now.program self.old self.new mailbox) }
     {
-        if self.body.count == 0 {
-            // unmet: a `get` has operands, and the first frame has none
-            return Err(unmet());
-        }
+        let Ok(()) = self.has_begun() else {
+            return Err(NoMemory);
+        };
         pause(self.alloc, &code.program, mailbox, &mut self.body);
         self.refused = Some(Waits::Take(mailbox));
         Ok(())
@@ -232,6 +293,21 @@ impl Fiber {
             Asked::Put(mailbox, shape) => match answer {
                 Answer::Sent(number) => {
                     self.pass_on(code, Did::Put(mailbox, number, shape));
+                    Ok(())
+                }
+                _ => unreachable!(),
+            },
+            Asked::PutWait(mailbox, shape) => match answer {
+                Answer::Sent(number) => {
+                    self.put_on(code, Did::Put(mailbox, number, shape));
+                    Ok(())
+                }
+                Answer::Full(tree, same) => self.wait_at(code, mailbox, tree, same),
+                _ => unreachable!(),
+            },
+            Asked::Bound(mailbox, most) => match answer {
+                Answer::Done => {
+                    self.pass_on(code, Did::Bound(mailbox, most));
                     Ok(())
                 }
                 _ => unreachable!(),

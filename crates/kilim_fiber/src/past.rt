@@ -18,6 +18,8 @@ pub enum Did {
     Empty(BoxName),
     Start(u32, Snapshot<Shape>),
     Print(Snapshot<Shape>),
+    /// A mailbox got that bound.
+    Bound(BoxName, u32),
 }
 
 /// The deeds of a fiber, the last one in front.

@@ -1,6 +1,6 @@
 -- What is asked of a built-in method.
-use Rattle.std.proofs.Common.{◌≡◌, ◌<◌, ◌≤◌, ℕ, true, length, arith, List, [], ◌∷◌, Option, Some, None, Result, refl, sym, ap, subst, ◌∙◌}
-use Rattle.std.specs.Prelude.{IfOk, pos}
+use Rattle.std.proofs.Common.{◌≡◌, ◌<◌, ◌≤◌, ℕ, zero, suc, ℤ, Bool, true, false, cond, length, arith, List, [], ◌∷◌, Option, Some, None, Result, refl, sym, ap, subst, ◌∙◌}
+use Rattle.std.specs.Prelude.{IfOk, nat_le, pos}
 use Rattle.kilim_program.specs.declared.names.BoxName.{BoxName}
 use Rattle.kilim_program.specs.declared.value.Value.{Value}
 use Rattle.kilim_program.specs.declared.value.Value.TheVariants.{Int, Long, Null, Ref, Text, Box, Fiber}
@@ -11,17 +11,22 @@ use Rattle.kilim_run_state.specs.Machine.{Objects}
 use Rattle.kilim_run_machine.specs.Moves.{push_result}
 use Rattle.kilim_run_machine.specs.Natives as native
 use Rattle.kilim_run_state.specs.Shapes.{shape_of}
-use Rattle.kilim_run_state.specs.Trees.{OfMessage}
+use Rattle.kilim_run_state.specs.Trees.{OfMessage, Root}
 use Rattle.kilim_units.specs.declared.memory.NoMemory.{NoMemory}
 use Rattle.kilim_run_model.specs.State.{Setting}
 use Rattle.kilim_run_state.specs.declared.run.Limits.{Limits}
 use Rattle.kilim_fiber_laws.specs.woven_kin.Standing.{Standing}
-use Rattle.kilim_fiber_laws.specs.woven_kin.Nexts.{Next, Goes, Stands, native_next, asks_next, member_next, message_next}
+use Rattle.kilim_fiber_laws.specs.woven_kin.Nexts.{Next, Goes, Ends, Bounds, Stands, native_next, asks_next, bound_next, counted, first_wait, member_next, message_next, putw_next, wait_again, wait_next}
 use Rattle.kilim_fiber_body.specs.Operands.{AreCopies}
 use Rattle.kilim_fiber_body.specs.declared.operands.Operands.{Operands}
 use Rattle.kilim_fiber_body.specs.declared.operands.Operands.TheVariants as copied
-use Rattle.kilim_fiber_body.specs.Comes.{CanAsk, IsMade, is_other, IsGivenBy, GiftIs, IsGift, Comes, gives_result}
-use Rattle.kilim_fiber_spec.specs.Fibers.{Fib, Fiber_at, Saved, member_does}
+use Rattle.kilim_fiber_body.specs.Comes.{CanAsk, CanGive, IsMade, is_other, IsGivenBy, GiftIs, IsGift, Comes, gives_result}
+use Rattle.kilim_run_state.specs.declared.cause.EndCause.TheVariants as cause
+use Rattle.kilim_run_model.specs.Kept.{given}
+use Rattle.kilim_fiber_spec.specs.Acts as acts
+use Rattle.kilim_fiber_body.specs.Body.{aside_in, behind_at}
+use Rattle.kilim_fiber_body.specs.declared.body.Apart.{Apart}
+use Rattle.kilim_fiber_spec.specs.Fibers.{Fib, Fiber_at, Saved, is_rewinding, member_does}
 use Rattle.kilim_fiber_steps.specs.records.Members.{Did, NotDone, Does, did}
 use Rattle.kilim_fiber_steps.specs.records.natives.Natives.{meaning, member_meant}
 use Rattle.kilim_fiber_body.specs.declared.body.Body.{Body}
@@ -57,6 +62,52 @@ pub put_given : (p W : Program) (limits : Limits) (b : Body) (n : Native) (box :
 put_given p W limits b n box first v is-put is-box can =
     given_by p W limits b box v (subst (λ (w : Value). CanAsk p W limits (Some native.Put) (w ∷ v ∷ []) b) is-box (subst (λ (n : Native). CanAsk p W limits (Some (meaning n)) (first ∷ v ∷ []) b) is-put can))
 
+-- ---- a put that waits
+
+-- with operands that are known
+pub wait_known : (p W : Program) (limits : Limits) (b : Body) (n : Native) (first v third : Value) → n ≡ code.PutWait → third ≡ Fiber → CanAsk p W limits (Some (meaning n)) (first ∷ v ∷ third ∷ []) b → CanAsk p W limits (Some native.PutWait) (first ∷ v ∷ Fiber ∷ []) b
+wait_known p W limits b n first v third is-wait is-fiber can =
+    subst (λ (z : Value). CanAsk p W limits (Some native.PutWait) (first ∷ v ∷ z ∷ []) b) is-fiber (subst (λ (m : Native). CanAsk p W limits (Some (meaning m)) (first ∷ v ∷ third ∷ []) b) is-wait can)
+
+pub wait_same : (set : Setting) (l : Standing) (n : Native) (first v third : Value) → n ≡ code.PutWait → third ≡ Fiber → native_next set l native.PutWait (first ∷ v ∷ Fiber ∷ []) ≡ native_next set l (meaning n) (first ∷ v ∷ third ∷ [])
+wait_same set l n first v third is-wait is-fiber = λ i. native_next set l (meaning (sym is-wait i)) (first ∷ v ∷ sym is-fiber i ∷ [])
+
+module _ (p W : Program) (limits : Limits) (b : Body) (first v : Value) (can : CanAsk p W limits (Some native.PutWait) (first ∷ v ∷ Fiber ∷ []) b) where
+  abbrev l : Standing
+  l = behind_at 0 b
+
+  pub wait_given : (box : BoxName) → first ≡ Box box → IsGivenBy p b.heap v
+  wait_given box is = by v (λ root n e. can.gives root n (ap (λ (z : Value). given (Some native.PutWait) (z ∷ v ∷ Fiber ∷ [])) is ∙ e))
+    where
+      by : (v : Value) → ((root : Root) (n : ℕ) → given (Some native.PutWait) (Box box ∷ v ∷ Fiber ∷ []) ≡ Some (root, n) → CanGive p b.heap n) → IsGivenBy p b.heap v
+      by (Ref n) gives = gives OfMessage n refl
+      by (Int n) gives = tt
+      by (Long n) gives = tt
+      by Null gives = tt
+      by (Text units) gives = tt
+      by (Box other) gives = tt
+      by Fiber gives = tt
+
+  -- ---- where it is made again
+  module _ (back : is_rewinding b.records ≡ true) where
+    again_is : (set : Setting) → putw_next set (is_rewinding b.records) l first v ≡ wait_again set l first (aside_in b.apart)
+    again_is set = ap (λ (z : Bool). putw_next set z l first v) back
+
+    pub again_next : (set : Setting) (box : BoxName) → first ≡ Box box → wait_again set l (Box box) (aside_in b.apart) ≡ putw_next set (is_rewinding b.records) l first v
+    again_next set box is = sym (again_is set ∙ ap (λ (z : Value). wait_again set l z (aside_in b.apart)) is)
+
+    -- something stands apart
+    pub again_apart : (box : BoxName) → first ≡ Box box → b.apart ≡ None → ⊥
+    again_apart box is none =
+        can.made.never (again_is can.made.set ∙ (ap (λ (z : Value). wait_again can.made.set l z (aside_in b.apart)) is ∙ ap (λ (o : Option Apart). wait_again can.made.set l (Box box) (aside_in o)) none))
+
+    pub again_boxed : ((box : BoxName) → first ≡ Box box → ⊥) → ⊥
+    again_boxed none = can.made.never (again_is can.made.set ∙ by first (aside_in b.apart) none)
+      where
+        by : (first : Value) (kept : List acts.Apart) → ((box : BoxName) → first ≡ Box box → ⊥) → wait_again can.made.set l first kept ≡ Stands
+        by (Box box) kept none = absurd (none box refl)
+        by _ kept none = refl
+
 -- what a member does, as what comes next
 abbrev next_by : Standing → Did → Next
 next_by l NotDone = Stands
@@ -86,11 +137,13 @@ put_made limits l n box first v is-put is-box made =
 
 -- ---- calls that verified code makes
 
--- one of a method that is no member of `kilim/Fiber` has at most two arguments
-pub made_few : (set : Setting) (l : Standing) (n : Native) (args : List Value) → is_other n ≡ true → (native_next set l (meaning n) args ≡ Stands → ⊥) → length args ≤ 2
+-- one of a method that is no member of `kilim/Fiber` has at most three arguments
+pub made_few : (set : Setting) (l : Standing) (n : Native) (args : List Value) → is_other n ≡ true → (native_next set l (meaning n) args ≡ Stands → ⊥) → length args ≤ 3
 made_few set l code.Execute (Ref n ∷ Fiber ∷ []) o m = omega arith
 made_few set l code.Start (Ref n ∷ []) o m = omega arith
 made_few set l code.Put (Box box ∷ v ∷ []) o m = omega arith
+made_few set l code.PutWait (v ∷ u ∷ Fiber ∷ []) o m = omega arith
+made_few set l code.Bound (Box box ∷ Int i ∷ []) o m = omega arith
 made_few set l code.Get (v ∷ Fiber ∷ []) o m = omega arith
 made_few set l code.Getnb (Box box ∷ []) o m = omega arith
 made_few set l code.Print (v ∷ []) o m = omega arith
@@ -133,7 +186,7 @@ args_same set l n args brgs e = ap (native_next set l n) (sym e)
 pub told_none : (args : List Value) (found : Operands) → found ≡ copied.None → AreCopies args found → args ≡ []
 told_none args found e are = subst (AreCopies args) e are
 
-pub told_more : (args : List Value) (found : Operands) → found ≡ copied.More → AreCopies args found → 2 < length args
+pub told_more : (args : List Value) (found : Operands) → found ≡ copied.More → AreCopies args found → 3 < length args
 told_more args found e are = subst (AreCopies args) e are
 
 pub told_one : (args : List Value) (found : Operands) (v : Value) → found ≡ copied.One v → AreCopies args found → args ≡ v ∷ []
@@ -141,6 +194,9 @@ told_one args found v e are = subst (AreCopies args) e are
 
 pub told_two : (args : List Value) (found : Operands) (v w : Value) → found ≡ copied.Two v w → AreCopies args found → args ≡ v ∷ w ∷ []
 told_two args found v w e are = subst (AreCopies args) e are
+
+pub told_three : (args : List Value) (found : Operands) (u v w : Value) → found ≡ copied.Three u v w → AreCopies args found → args ≡ u ∷ v ∷ w ∷ []
+told_three args found u v w e are = subst (AreCopies args) e are
 
 -- ---- a member that has the fiber alone
 

@@ -30,7 +30,7 @@ use Rattle.kilim_fiber_spec.specs.Fibers.{is_rewinding}
 use Rattle.kilim_fiber_laws.specs.woven_kin.Standing.{Standing}
 use Rattle.kilim_fiber_laws.specs.woven_kin.Nexts.{Next, Goes, Ends, Stands, asks_next, finish_next, found_next, next_by, next_of, opens_next, spent_or, stood, ticked}
 use Rattle.kilim_fiber_laws.specs.woven_kin.Alike.{is_end, spends, spends_at}
-use Rattle.kilim_fiber_body.specs.Body.{behind_at, operands_of, standing_at}
+use Rattle.kilim_fiber_body.specs.Body.{aside_in, behind_at, operands_of, standing_at}
 use Rattle.kilim_fiber_body.specs.Comes.{CanGive}
 use Rattle.kilim_fiber_body.specs.Legs.{ComesTo, HasGone}
 use Rattle.kilim_fiber_body.specs.Reach.{AtFirst, Further, GoesTo, IsReadyOn}
@@ -76,10 +76,10 @@ few_before false limit n m few e = (omega (arith, few, e), λ d. absurd (not_bot
 -- from these frames, this heap and this count, with what else a body has
 module _ (set : Setting) (W : Program) (marks : List (List Bool)) (t : ℕ) (b : Body) (cs : List Activation) (hs : Objects) (ds : ℕ) (live : Bool) (live-is : live ≡ not (is_rewinding b.records)) (limit : ℕ) (all : ds + limit ≡ set.limits.steps) where
   abbrev pub at_ : ℕ → ℕ → List Activation → Objects → Standing
-  at_ x n calls k = record { frames = calls; fiber = b.records; heap = k; next = x; done = ds + n; boxes = b.boxes; kept = b.kept }
+  at_ x n calls k = record { frames = calls; fiber = b.records; heap = k; next = x; done = ds + n; boxes = b.boxes; kept = b.kept; aside = aside_in b.apart }
 
   abbrev pub first : Standing
-  first = record { frames = cs; fiber = b.records; heap = hs; next = 0; done = ds; boxes = b.boxes; kept = b.kept }
+  first = record { frames = cs; fiber = b.records; heap = hs; next = 0; done = ds; boxes = b.boxes; kept = b.kept; aside = aside_in b.apart }
 
   -- the next instruction has that mark, and may be done
   abbrev pub IsLeft : ℕ → Bool → Type 0
@@ -126,7 +126,7 @@ module _ (set : Setting) (W : Program) (marks : List (List Bool)) (t : ℕ) (b :
   pub goes_on : (n : ℕ) (calls : List Activation) (k : Objects) → n ≤ limit → CountedRunsTo W marks live (cs) hs n calls k → GoesTo set W marks t first (at_ 0 n calls k)
   goes_on n calls k few (counted.AtFirst z same heap) =
       let e = none_more ds n z in
-      AtFirst (λ i. record { frames = same i; fiber = b.records; heap = heap i; next = 0; done = e i; boxes = b.boxes; kept = b.kept })
+      AtFirst (λ i. record { frames = same i; fiber = b.records; heap = heap i; next = 0; done = e i; boxes = b.boxes; kept = b.kept; aside = aside_in b.apart })
   goes_on n calls k few (counted.Further mark m mid x runs has step more) =
       let before = few_before (mark && live) limit n m few more in
       step_on n m mark mid x calls k before.1 more has step (goes_on m mid x before.0 runs)

@@ -39,6 +39,8 @@ module _ (set : Setting) (W : Program) (marks : List (List Bool)) (t : ℕ) (fir
     pub came_next : (c : Came) → Comes 0 next new c → HasReached set W marks t first new c
     came_next came.On comes = Further comes-to.mid comes-to.free 0 comes-to.goes comes-to.is-free (comes-to.is ∙ comes)
     came_next (came.Puts box tree shape) comes = wants (came.Puts box tree shape) comes
+    came_next (came.PutWaits box tree shape) comes = wants (came.PutWaits box tree shape) comes
+    came_next (came.Bounds box most) comes = wants (came.Bounds box most) comes
     came_next (came.Takes box) comes = wants (came.Takes box) comes
     came_next (came.Probes box) comes = wants (came.Probes box) comes
     came_next (came.Starts tree shape) comes = wants (came.Starts tree shape) comes
@@ -75,6 +77,8 @@ rests_made set W marks t b none ready e =
 pub wanting_by : (c : Came) → (c ≡ came.On → ⊥) → IsWanting c ≡ true
 wanting_by came.On out = absurd (out refl)
 wanting_by (came.Puts box tree shape) out = refl
+wanting_by (came.PutWaits box tree shape) out = refl
+wanting_by (came.Bounds box most) out = refl
 wanting_by (came.Takes box) out = refl
 wanting_by (came.Probes box) out = refl
 wanting_by (came.Starts tree shape) out = refl
@@ -90,6 +94,8 @@ module _ (set : Setting) (W : Program) (marks : List (List Bool)) (t : ℕ) (fir
   pub reached_later : (mid : Standing) (new : Body) (c : Came) → (c ≡ came.On → ⊥) → GoesTo set W marks t first mid → HasReached set W marks t mid new c → Reaches set W marks t first new c
   reached_later mid new came.On out goes r = absurd (out refl)
   reached_later mid new (came.Puts box tree shape) out goes r = later mid new (came.Puts box tree shape) goes r
+  reached_later mid new (came.PutWaits box tree shape) out goes r = later mid new (came.PutWaits box tree shape) goes r
+  reached_later mid new (came.Bounds box most) out goes r = later mid new (came.Bounds box most) goes r
   reached_later mid new (came.Takes box) out goes r = later mid new (came.Takes box) goes r
   reached_later mid new (came.Probes box) out goes r = later mid new (came.Probes box) goes r
   reached_later mid new (came.Starts tree shape) out goes r = later mid new (came.Starts tree shape) goes r

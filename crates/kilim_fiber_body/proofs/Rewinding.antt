@@ -12,7 +12,7 @@ use Rattle.kilim_run_state.specs.declared.frames.frames.Frames.{Frames}
 use Rattle.kilim_run_state.specs.frames.Calls.{calls_of}
 use Rattle.kilim_fiber_spec.specs.Fibers.{Fib, executes_on, first_receiver, resumed}
 use Rattle.kilim_fiber_laws.specs.woven_kin.Nexts.{Goes, resumes_next}
-use Rattle.kilim_fiber_body.specs.Body.{calls_in, standing_at}
+use Rattle.kilim_fiber_body.specs.Body.{aside_in, calls_in, standing_at}
 use Rattle.kilim_fiber_body.specs.declared.body.Body.{Body}
 
 -- the frames are those of the method `execute` that the receiver has
@@ -31,5 +31,5 @@ goes_on W old mid frames records receiver m is has calls stands rewinds =
     let at : entered W m (first_receiver old.records ∷ Fiber ∷ []) ∷ [] ≡ calls_in mid.frames = ap (λ (v : Value). entered W m (v ∷ Fiber ∷ []) ∷ []) (sym is) ∙ (sym calls ∙ ap (λ (b : Body). calls_in b.frames) back) in
     let fiber : resumed old.records ≡ records = ap (λ (b : Body). resumed b.records) back ∙ sym rewinds in
     let next : Goes (record (standing_at 0 old) { frames = entered W m (first_receiver old.records ∷ Fiber ∷ []) ∷ []; fiber = resumed old.records }) ≡ Goes (standing_at 0 (record mid { records = records })) =
-    λ i. Goes (record { frames = at i; fiber = fiber i; heap = (back i).heap; next = 0; done = (back i).count; boxes = (back i).boxes; kept = (back i).kept }) in
+    λ i. Goes (record { frames = at i; fiber = fiber i; heap = (back i).heap; next = 0; done = (back i).count; boxes = (back i).boxes; kept = (back i).kept; aside = aside_in (back i).apart }) in
     ap (resumes_next W (standing_at 0 old)) there ∙ next

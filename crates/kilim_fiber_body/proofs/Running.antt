@@ -21,7 +21,7 @@ use Rattle.kilim_fiber_steps.specs.declared.runs.Halted.{Halted}
 use Rattle.kilim_fiber_steps.specs.declared.runs.Halted.TheVariants as halted
 use Rattle.kilim_fiber_laws.specs.woven_kin.Standing.{Standing}
 use Rattle.kilim_fiber_laws.specs.woven_kin.Nexts.{Goes, Next, Stands, asks_next, member_next, native_next, next_by, next_of, yield_next}
-use Rattle.kilim_fiber_body.specs.Body.{calls_in, standing_at}
+use Rattle.kilim_fiber_body.specs.Body.{aside_in, calls_in, standing_at}
 use Rattle.kilim_fiber_body.specs.Comes.{gives_result}
 use Rattle.kilim_fiber_body.specs.Legs.{ComesTo, HasGone}
 use Rattle.kilim_fiber_body.specs.Reach as reach
@@ -72,7 +72,7 @@ module _ (set : Setting) (W : Program) (marks : List (List Bool)) (t : ℕ) wher
 
   module _ (b : Body) (limit : ℕ) (all : b.count + limit ≡ set.limits.steps) where
     abbrev at_ : ℕ → List Activation → Objects → Fib → Standing
-    at_ n calls k g = record { frames = calls; fiber = g; heap = k; next = 0; done = b.count + n; boxes = b.boxes; kept = b.kept }
+    at_ n calls k g = record { frames = calls; fiber = g; heap = k; next = 0; done = b.count + n; boxes = b.boxes; kept = b.kept; aside = aside_in b.apart }
 
     abbrev with_ : Fib → Body
     with_ g = record b { records = g }
@@ -101,7 +101,7 @@ module _ (set : Setting) (W : Program) (marks : List (List Bool)) (t : ℕ) wher
     pub fiber_goes : (n : ℕ) (calls : List Activation) (k : Objects) (g : Fib) → FiberRunsTo W marks limit (calls_in b.frames) b.heap b.records n calls k g → GoesTo set W marks t (standing_at 0 b) (at_ n calls k g)
     fiber_goes n calls k g (AtFirst z same heap fiber) =
         let e : b.count + n ≡ b.count = omega (arith, z) in
-        reach.AtFirst (λ i. record { frames = same i; fiber = fiber i; heap = heap i; next = 0; done = e i; boxes = b.boxes; kept = b.kept })
+        reach.AtFirst (λ i. record { frames = same i; fiber = fiber i; heap = heap i; next = 0; done = e i; boxes = b.boxes; kept = b.kept; aside = aside_in b.apart })
     fiber_goes n calls k g (ByRun m more mid x runs steps sum few) =
         let less : m ≤ limit = omega (arith, sum, few) in
         let there : (b.count + m) + (limit - m) ≡ set.limits.steps = omega (arith, all, less) in

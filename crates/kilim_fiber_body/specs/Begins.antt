@@ -20,6 +20,7 @@ pub record IsFresh (W : Program) (b : Body) : Type 0 where
   pub count : b.count ≡ 0
   pub boxes : b.boxes ≡ 0
   pub idle : b.idle ≡ not (is_some b.frames)
+  pub apart : b.apart ≡ None
 
 -- the body with which a task begins on a tree
 pub record BodyBegins (W : Program) (tree : List Object) (b : Body) : Type 0 where

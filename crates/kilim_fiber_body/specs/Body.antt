@@ -1,12 +1,15 @@
 -- What a fiber runs, as a woven fiber that stands.
-use Rattle.std.specs.Prelude.{◌<◌, ◌≤◌, ℕ, List, [], Option, Some, None, length, drop, reverse, take}
+use Rattle.std.specs.Prelude.{◌<◌, ◌≤◌, ℕ, List, [], ◌∷◌, Option, Some, None, length, drop, reverse, take}
 use Rattle.kilim_program.specs.declared.value.Value.{Value}
 use Rattle.kilim_program.specs.Program.{Program}
 use Rattle.kilim_run_state.specs.Machine.{Activation}
 use Rattle.kilim_run_state.specs.declared.frames.frames.Frames.{Frames}
 use Rattle.kilim_run_state.specs.frames.Calls.{calls_of, answered}
 use Rattle.kilim_run_interp.specs.Step.{AreRoomy, stack_limit}
+use Rattle.kilim_run_trees.specs.Moved.{tree_heap}
+use Rattle.kilim_fiber_spec.specs.Acts.{Apart}
 use Rattle.kilim_fiber_laws.specs.woven_kin.Standing.{Standing}
+use Rattle.kilim_fiber_body.specs.declared.body.Apart as body
 use Rattle.kilim_fiber_body.specs.declared.body.Body.{Body}
 
 abbrev pub calls_in : Option Frames → List Activation
@@ -18,13 +21,18 @@ abbrev pub answered_in : Option Frames → List Activation
 answered_in None = []
 answered_in (Some frames) = answered frames
 
+-- What waits to be put, with a heap of its own.
+abbrev pub aside_in : Option body.Apart → List Apart
+aside_in None = []
+aside_in (Some a) = record { root = 0; shape = a.shape; heap = tree_heap a.tree } ∷ []
+
 -- The places of its heap are the names. The next name is any place that is free, so it is told beside.
 abbrev pub standing_at : ℕ → Body → Standing
-standing_at x b = record { frames = calls_in b.frames; fiber = b.records; heap = b.heap; next = x; done = b.count; boxes = b.boxes; kept = b.kept }
+standing_at x b = record { frames = calls_in b.frames; fiber = b.records; heap = b.heap; next = x; done = b.count; boxes = b.boxes; kept = b.kept; aside = aside_in b.apart }
 
 -- behind the instruction that was handed out, which isn't counted yet
 abbrev pub behind_at : ℕ → Body → Standing
-behind_at x b = record { frames = answered_in b.frames; fiber = b.records; heap = b.heap; next = x; done = b.count; boxes = b.boxes; kept = b.kept }
+behind_at x b = record { frames = answered_in b.frames; fiber = b.records; heap = b.heap; next = x; done = b.count; boxes = b.boxes; kept = b.kept; aside = aside_in b.apart }
 
 -- each stack has room for what its method may have there
 abbrev pub RoomyIn : Program → Option Frames → Type 0

@@ -1,7 +1,8 @@
 -- What a body comes to, against what a woven fiber does next.
-use Rattle.std.specs.Prelude.{◌≡◌, ◌≤◌, ◌+◌, ℕ, Bool, true, false, List, [], ◌∷◌, Option, Some, None}
+use Rattle.std.specs.Prelude.{◌≡◌, ◌⊎◌, ◌≤◌, ◌+◌, ℕ, Bool, true, false, List, [], ◌∷◌, Option, Some, None}
 use Rattle.std.specs.List.{AllByRecursion}
 use Rattle.kilim_program.specs.Program.{Program}
+use Rattle.kilim_program.specs.declared.names.BoxName.{BoxName}
 use Rattle.kilim_program.specs.declared.value.Value.{Value}
 use Rattle.kilim_program.specs.declared.value.Value.TheVariants.{Ref}
 use Rattle.kilim_run_state.specs.declared.value.Object.{Object}
@@ -19,9 +20,9 @@ use Rattle.kilim_fiber_steps.specs.declared.records.natives.natives.Native as de
 use Rattle.kilim_fiber_steps.specs.declared.records.natives.natives.Native.TheVariants as code
 use Rattle.kilim_run_trees.specs.Room.{RoomFor}
 use Rattle.kilim_run_trees.specs.Walk.{AllThere}
-use Rattle.kilim_run_trees.specs.Moved.{Fits, CanLeave, IsTooLarge, TakenOut}
+use Rattle.kilim_run_trees.specs.Moved.{Fits, CanLeave, IsTooLarge, TakenOut, tree_heap}
 use Rattle.kilim_run_trees.specs.Shaping.{Suits}
-use Rattle.kilim_fiber_laws.specs.woven_kin.Nexts.{Next, Goes, Puts, Gets, Probes, Starts, Prints, Rests, Ends, Stands, asks_next, counted, paused_at, taken_at}
+use Rattle.kilim_fiber_laws.specs.woven_kin.Nexts.{Next, Goes, Puts, PutWaits, PutsAgain, Bounds, Gets, Probes, Starts, Prints, Rests, Ends, Stands, asks_next, counted, paused_at, taken_at, waiting_at}
 use Rattle.kilim_fiber_body.specs.Body.{standing_at, behind_at, HasFrames, RoomIn}
 use Rattle.kilim_fiber_body.specs.declared.body.Body.{Body}
 use Rattle.kilim_fiber_body.specs.declared.body.Came.{Came}
@@ -58,10 +59,21 @@ pub record HasGiven (m : ℕ) (new : Body) (tree : List Object) : Type 0 where
   pub heap : Objects
   pub out : TakenOut heap m new.heap tree
 
+-- A put that waits: its tree has left the heap. Made again, its tree has come from where it stood apart.
+abbrev pub FirstWaits : ℕ → Next → Body → BoxName → List Object → List Token → Type 0
+FirstWaits x next new box tree shape =
+    (m : ℕ) × (g : HasGiven m new tree) × (next ≡ PutWaits box m shape (waiting_at box (behind_at x (record new { heap = g.heap }))) (taken_at (behind_at x (record new { heap = g.heap }))))
+
+abbrev pub WaitsAgain : ℕ → Next → Body → BoxName → List Object → List Token → Type 0
+WaitsAgain x next new box tree shape =
+    next ≡ PutsAgain box 0 shape (taken_at (behind_at x (record new { heap = tree_heap tree }))) (waiting_at box (behind_at x (record new { apart = Some (record { tree = tree; shape = shape }) }))) (taken_at (behind_at x new))
+
 -- The fiber does that next, and comes to this body; what is asked is kept where it was.
 abbrev pub Comes : ℕ → Next → Body → Came → Type 0
 Comes x next new came.On = next ≡ Goes (standing_at x new)
 Comes x next new (came.Puts box tree shape) = (m : ℕ) × (g : HasGiven m new tree) × (next ≡ Puts box m shape (counted (behind_at x (record new { heap = g.heap }))))
+Comes x next new (came.PutWaits box tree shape) = FirstWaits x next new box tree shape ⊎ WaitsAgain x next new box tree shape
+Comes x next new (came.Bounds box most) = next ≡ Bounds box most (counted (behind_at x new))
 Comes x next new (came.Takes box) = next ≡ Gets box (paused_at box (behind_at x new)) (taken_at (behind_at x new))
 Comes x next new (came.Probes box) = next ≡ Probes box (counted (behind_at x new))
 Comes x next new (came.Starts tree shape) = (m : ℕ) × (g : HasGiven m new tree) × (next ≡ Starts m shape (counted (behind_at x (record new { heap = g.heap }))))
@@ -111,6 +123,8 @@ abbrev pub HasRoomFor : Program → Body → Came → Type 0
 HasRoomFor W new (came.Takes box) = RoomIn W new.frames
 HasRoomFor W new (came.Probes box) = RoomIn W new.frames
 HasRoomFor W new (came.Puts box tree shape) = HasFrames new.frames
+HasRoomFor W new (came.PutWaits box tree shape) = HasFrames new.frames
+HasRoomFor W new (came.Bounds box most) = HasFrames new.frames
 HasRoomFor W new (came.Starts tree shape) = HasFrames new.frames
 HasRoomFor W new (came.Prints shape) = HasFrames new.frames
 HasRoomFor W new c = Unit {0}

@@ -6,12 +6,13 @@ use Rattle.kilim_fiber_body.specs.Body.{operands_of}
 use Rattle.kilim_fiber_body.specs.declared.operands.Operands.{Operands}
 use Rattle.kilim_fiber_body.specs.declared.operands.Operands.TheVariants as copied
 
--- copies of them, where there are at most two
+-- copies of them, where there are at most three
 abbrev pub AreCopies : List Value → Operands → Type 0
 AreCopies args copied.None = args ≡ []
 AreCopies args (copied.One value) = args ≡ value ∷ []
 AreCopies args (copied.Two first second) = args ≡ first ∷ second ∷ []
-AreCopies args copied.More = 2 < length args
+AreCopies args (copied.Three first second third) = args ≡ first ∷ second ∷ third ∷ []
+AreCopies args copied.More = 3 < length args
 
 abbrev pub AreOperands : Frames → Operands → Type 0
 AreOperands frames found = AreCopies (operands_of frames) found

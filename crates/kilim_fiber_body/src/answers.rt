@@ -4,13 +4,13 @@ ghost use Rattle.std.specs.Prelude.{◌≡◌, ◌<◌, ◌+◌, ◌^◌, Some, 
 ghost use Rattle.std.specs.List.{AllByRecursion};
 ghost use Rattle.kilim_program.specs.declared.value.Value.TheVariants as a_value;
 ghost use Rattle.kilim_run_trees.specs.Shaping.{Suits};
-ghost use Rattle.kilim_fiber_laws.specs.woven_kin.Nexts.{counted, paused_at, taken_at, with_result};
+ghost use Rattle.kilim_fiber_laws.specs.woven_kin.Nexts.{counted, paused_at, taken_at, waiting_at, with_result};
 ghost use Rattle.kilim_fiber_body.specs.Answers.{HasFound, HasTaken, Received};
 ghost use Rattle.kilim_fiber_body.specs.Body.{behind_at, standing_at, HasFrames, RoomyIn, RoomIn};
 
 use crate::asks::{go_on, go_on_with};
-use crate::body::Body;
-use crate::members::pass_with;
+use crate::body::{Apart, Body};
+use crate::members::{pass_on, pass_with};
 use kilim_program::{BoxName, Program, Value};
 use kilim_run_state::Shape;
 use kilim_run_trees::{Tree, put_in, shape};
@@ -37,6 +37,37 @@ pub fn found_none(program: &Program, body: &mut Body)
     ensures roomy { RoomyIn program.now body.new.frames }
 {
     go_on_with(program, body, Value::Null);
+}
+
+/// The mailbox of a `putw` is full: it pauses, and its tree stands apart.
+pub fn wait(
+    alloc: Global,
+    program: &Program,
+    mailbox: BoxName,
+    tree: Tree,
+    shape: Shape,
+    body: &mut Body,
+)
+    requires frames { HasFrames body.old.frames }
+    requires roomy { RoomyIn program.now body.old.frames }
+    ensures stands { standing_at 0 body.new ≡ waiting_at mailbox (behind_at 0 (record body.old { apart = Some (record { tree = tree; shape = shape }) })) }
+    ensures roomy { RoomyIn program.now body.new.frames }
+{
+    body.apart = Some(Apart { tree, shape });
+    body.records.pause(alloc, Value::Box(mailbox));
+    pass_on(program, body);
+}
+
+/// What waited to be put is: a `putw` ends a rewinding.
+pub fn put_done(alloc: Global, program: &Program, body: &mut Body)
+    requires frames { HasFrames body.old.frames }
+    requires roomy { RoomyIn program.now body.old.frames }
+    requires counts { body.old.count + 1 < 2 ^ 64 }
+    ensures stands { standing_at 0 body.new ≡ taken_at (behind_at 0 body.old) }
+    ensures roomy { RoomyIn program.now body.new.frames }
+{
+    body.records.end_rewinding(alloc);
+    go_on(program, body);
 }
 
 /// The mailbox of a `get` is empty: it pauses.

@@ -1,6 +1,6 @@
 //! A built-in method that is called.
 
-ghost use Rattle.std.specs.Prelude.{◌≡◌, ◌<◌, ◌+◌, ◌^◌, ◌∷◌, [], true, length, Some, None, IfOk, OnOk};
+ghost use Rattle.std.specs.Prelude.{◌≡◌, ◌<◌, ◌+◌, ◌^◌, ◌∷◌, [], false, true, length, Some, None, IfOk, OnOk};
 ghost use Rattle.kilim_program.specs.declared.value.Value.TheVariants as a_value;
 ghost use Rattle.kilim_run_machine.specs.Natives as a_native;
 ghost use Rattle.kilim_program.specs.Program.{Program as AProgram};
@@ -8,14 +8,14 @@ ghost use Rattle.kilim_run_machine.specs.Natives.{native_of};
 ghost use Rattle.kilim_run_state.specs.Shapes.{shape_of};
 ghost use Rattle.kilim_run_model.specs.State.{Setting};
 ghost use Rattle.kilim_run_model.specs.Lone.{narrowed, arg_at, printed};
-ghost use Rattle.kilim_fiber_laws.specs.woven_kin.Nexts.{Goes, Stands, counted, with_result, arg_next, get_next, print_next, put_next, message_next, start_next, native_next, asks_next, yield_next, spent_or};
+ghost use Rattle.kilim_fiber_laws.specs.woven_kin.Nexts.{Goes, Stands, counted, with_result, arg_next, bound_next, get_next, print_next, put_next, put_wait_next, putw_next, message_next, start_next, wait_again, wait_next, native_next, asks_next, yield_next, spent_or};
 ghost use Rattle.kilim_fiber_spec.specs.Fibers.{is_rewinding};
-ghost use Rattle.kilim_fiber_body.specs.Body.{standing_at, behind_at, operands_in, RoomyIn, RoomIn, HasFrames, HasOperands};
+ghost use Rattle.kilim_fiber_body.specs.Body.{aside_in, standing_at, behind_at, operands_in, RoomyIn, RoomIn, HasFrames, HasOperands};
 ghost use Rattle.kilim_fiber_body.specs.Comes.{CanGive, IsGivenBy, IsMade, CanAsk, Comes, HasRoomFor, IsNear, is_other};
 ghost use Rattle.kilim_fiber_body.specs.Operands.{AreCopies};
 ghost use Rattle.kilim_fiber_steps.specs.records.natives.Natives.{meaning};
 
-use crate::body::{Body, Came};
+use crate::body::{Apart, Body, Came};
 use crate::code::Code;
 use crate::gifts::{Gift, take_gift};
 use crate::members::{ask_member, pass_on};
@@ -26,6 +26,7 @@ use kilim_program::{BoxName, MethodId, Program, Value};
 use kilim_run_state::{EndCause, Limits, Shape, Token};
 use kilim_units::{NoMemory, Seq, unmet};
 use std::alloc::Global;
+use std::mem::replace;
 
 /// It goes on behind a method without a result.
 pub fn go_on(program: &Program, body: &mut Body)
@@ -198,6 +199,145 @@ fn put(
         Value::Null => Ok(Came::Ends(EndCause::Null)),
         Value::Ref(root) => put_tree(alloc, plain, program, mailbox, *root, body),
         _ => unreachable!(),
+    }
+}
+
+// `putw` of a message, which leaves the heap at once
+fn put_wait_tree(
+    alloc: Global,
+    plain: &Program,
+    program: &Program,
+    mailbox: BoxName,
+    root: u32,
+    body: &mut Body,
+) -> Result<Came, NoMemory>
+    requires frames { HasFrames body.old.frames }
+    requires roomy { RoomyIn program.now body.old.frames }
+    requires gives { CanGive plain.now body.old.heap root }
+    ensures comes { IfOk result (λ came. Comes 0 (put_wait_next plain.now (behind_at 0 body.old) mailbox root (shape_of plain.now body.old.heap root)) body.new came) }
+    ensures roomy { OnOk result (RoomyIn program.now body.new.frames) }
+    ensures counted { OnOk result (IsNear body.old.count body.new.count) }
+    ensures room { IfOk result (λ came. HasRoomFor program.now body.new came) }
+{
+    match take_gift(alloc, plain, root, &mut body.heap) {
+        Ok(Gift::Tree(tree, shape)) => Ok(Came::PutWaits(mailbox, tree, shape)),
+        Ok(Gift::TooLarge) => Ok(Came::Ends(EndCause::Large)),
+        Err(fault) => Err(fault),
+    }
+}
+
+// `putw`, where it isn't made again
+fn put_wait(
+    alloc: Global,
+    plain: &Program,
+    program: &Program,
+    mailbox: BoxName,
+    message: &Value,
+    body: &mut Body,
+) -> Result<Came, NoMemory>
+    requires frames { HasFrames body.old.frames }
+    requires roomy { RoomyIn program.now body.old.frames }
+    requires made { (p : AProgram) × (wait_next p (behind_at 0 body.old) mailbox message.now ≡ Stands → ⊥) }
+    requires gives { IsGivenBy plain.now body.old.heap message.now }
+    ensures comes { IfOk result (λ came. Comes 0 (wait_next plain.now (behind_at 0 body.old) mailbox message.now) body.new came) }
+    ensures roomy { OnOk result (RoomyIn program.now body.new.frames) }
+    ensures counted { OnOk result (IsNear body.old.count body.new.count) }
+    ensures room { IfOk result (λ came. HasRoomFor program.now body.new came) }
+{
+    match message {
+        Value::Null => Ok(Came::Ends(EndCause::Null)),
+        Value::Ref(root) => put_wait_tree(alloc, plain, program, mailbox, *root, body),
+        _ => unreachable!(),
+    }
+}
+
+// `putw`, made again: its tree is what stands apart.
+fn put_again(program: &Program, limits: &Limits, mailbox: BoxName, body: &mut Body) -> Came
+    requires frames { HasFrames body.old.frames }
+    requires roomy { RoomyIn program.now body.old.frames }
+    requires waits { body.old.apart ≡ None → ⊥ }
+    ensures comes { (set : Setting) → set.limits ≡ limits.now → Comes 0 (wait_again set (behind_at 0 body.old) (a_value.Box mailbox) (aside_in body.old.apart)) body.new result }
+    ensures roomy { RoomyIn program.now body.new.frames }
+    ensures counted { IsNear body.old.count body.new.count }
+    ensures room { HasRoomFor program.now body.new result }
+{
+    let _ = program;
+    let Some(apart) = replace(&mut body.apart, None) else {
+        unreachable!()
+    };
+    if body.count >= limits.steps {
+        drop(apart);
+        return Came::Ends(EndCause::Spent);
+    }
+    let Apart { tree, shape } = apart;
+    Came::PutWaits(mailbox, tree, shape)
+}
+
+// `putw`, where it isn't made again: a task that has done its instructions puts nothing any more.
+fn put_first(
+    alloc: Global,
+    plain: &Program,
+    program: &Program,
+    limits: &Limits,
+    receiver: &Value,
+    message: &Value,
+    body: &mut Body,
+) -> Result<Came, NoMemory>
+    requires frames { HasFrames body.old.frames }
+    requires roomy { RoomyIn program.now body.old.frames }
+    requires forward { is_rewinding body.old.records ≡ false }
+    requires can { CanAsk plain.now program.now limits.now (Some a_native.PutWait) (receiver.now ∷ message.now ∷ a_value.Fiber ∷ []) body.old }
+    ensures comes { (set : Setting) → set.program ≡ plain.now → set.limits ≡ limits.now → IfOk result (λ came. Comes 0 (putw_next set (is_rewinding body.old.records) (behind_at 0 body.old) receiver.now message.now) body.new came) }
+    ensures roomy { OnOk result (RoomyIn program.now body.new.frames) }
+    ensures counted { OnOk result (IsNear body.old.count body.new.count) }
+    ensures room { IfOk result (λ came. HasRoomFor program.now body.new came) }
+{
+    if body.count >= limits.steps {
+        return Ok(Came::Ends(EndCause::Spent));
+    }
+    match receiver {
+        Value::Box(mailbox) => put_wait(alloc, plain, program, *mailbox, message, body),
+        _ => unreachable!(),
+    }
+}
+
+// `putw`
+fn put_or_wait(
+    alloc: Global,
+    plain: &Program,
+    program: &Program,
+    limits: &Limits,
+    receiver: &Value,
+    message: &Value,
+    body: &mut Body,
+) -> Result<Came, NoMemory>
+    requires frames { HasFrames body.old.frames }
+    requires roomy { RoomyIn program.now body.old.frames }
+    requires can { CanAsk plain.now program.now limits.now (Some a_native.PutWait) (receiver.now ∷ message.now ∷ a_value.Fiber ∷ []) body.old }
+    ensures comes { (set : Setting) → set.program ≡ plain.now → set.limits ≡ limits.now → IfOk result (λ came. Comes 0 (putw_next set (is_rewinding body.old.records) (behind_at 0 body.old) receiver.now message.now) body.new came) }
+    ensures roomy { OnOk result (RoomyIn program.now body.new.frames) }
+    ensures counted { OnOk result (IsNear body.old.count body.new.count) }
+    ensures room { IfOk result (λ came. HasRoomFor program.now body.new came) }
+{
+    if !body.records.is_rewinding() {
+        return put_first(alloc, plain, program, limits, receiver, message, body);
+    }
+    match receiver {
+        Value::Box(mailbox) => Ok(put_again(program, limits, *mailbox, body)),
+        _ => unreachable!(),
+    }
+}
+
+// `Mailbox(int)`: a bound is one or more.
+fn bound(mailbox: BoxName, most: &i32, body: &Body) -> Came
+    ensures comes { Comes 0 (bound_next (behind_at 0 body.now) mailbox most.now) body.now result }
+    ensures room { (program : AProgram) → HasFrames body.now.frames → HasRoomFor program body.now result }
+{
+    let _ = body;
+    match u32::try_from(*most) {
+        Ok(0) => Came::Ends(EndCause::Size),
+        Ok(number) => Came::Bounds(mailbox, number),
+        Err(_) => Came::Ends(EndCause::Size),
     }
 }
 
@@ -405,6 +545,40 @@ fn ask_of_two(
             Value::Box(mailbox) => put(alloc, plain, program, *mailbox, second, body),
             _ => unreachable!(),
         },
+        Native::Bound => match (first, second) {
+            (Value::Box(mailbox), Value::Int(most)) => Ok(bound(*mailbox, most, body)),
+            _ => unreachable!(),
+        },
+        _ => unreachable!(),
+    }
+}
+
+// A method of two arguments with the fiber behind them.
+fn ask_of_three(
+    alloc: Global,
+    plain: &Program,
+    program: &Program,
+    limits: &Limits,
+    native: Native,
+    first: &Value,
+    second: &Value,
+    third: &Value,
+    body: &mut Body,
+) -> Result<Came, NoMemory>
+    requires frames { HasFrames body.old.frames }
+    requires roomy { RoomyIn program.now body.old.frames }
+    requires other { is_other native ≡ true }
+    requires can { CanAsk plain.now program.now limits.now (Some (meaning native)) (first.now ∷ second.now ∷ third.now ∷ []) body.old }
+    ensures comes { (set : Setting) → set.program ≡ plain.now → set.limits ≡ limits.now → IfOk result (λ came. Comes 0 (native_next set (behind_at 0 body.old) (meaning native) (first.now ∷ second.now ∷ third.now ∷ [])) body.new came) }
+    ensures roomy { OnOk result (RoomyIn program.now body.new.frames) }
+    ensures counted { OnOk result (IsNear body.old.count body.new.count) }
+    ensures room { IfOk result (λ came. HasRoomFor program.now body.new came) }
+{
+    match native {
+        Native::PutWait => match third {
+            Value::Fiber => put_or_wait(alloc, plain, program, limits, first, second, body),
+            _ => unreachable!(),
+        },
         _ => unreachable!(),
     }
 }
@@ -489,6 +663,9 @@ fn ask_with(
         Operands::Two(first, second) => {
             ask_of_any_two(alloc, plain, program, limits, native, first, second, body)
         }
+        Operands::Three(first, second, third) => ask_of_three(
+            alloc, plain, program, limits, native, first, second, third, body,
+        ),
         Operands::More => unreachable!(),
     }
 }

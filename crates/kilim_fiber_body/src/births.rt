@@ -40,6 +40,7 @@ fn new_body(
         count: 0,
         boxes: 0,
         kept,
+        apart: None,
     }
 }
 

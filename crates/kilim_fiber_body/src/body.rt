@@ -28,6 +28,13 @@ use std::alloc::Global;
 /// The most mailboxes that a task makes.
 const MOST_BOXES: u32 = 1000;
 
+/// A message that waits to be put, as its mailbox is full: its tree is out of the heap while the fiber rests.
+#[derive(Drop)]
+pub struct Apart {
+    pub tree: Tree,
+    pub shape: Shape,
+}
+
 /// What a fiber runs.
 #[derive(Drop)]
 pub struct Body {
@@ -44,6 +51,8 @@ pub struct Body {
     pub boxes: u32,
     /// The object of task 0, until its `execute` begins.
     pub kept: Option<u32>,
+    /// What waits to be put, beside the record of that call.
+    pub apart: Option<Apart>,
 }
 
 /// What it comes to.
@@ -52,6 +61,8 @@ pub enum Came {
     /// It goes on.
     On,
     Puts(BoxName, Tree, Shape),
+    PutWaits(BoxName, Tree, Shape),
+    Bounds(BoxName, u32),
     Takes(BoxName),
     Probes(BoxName),
     Starts(Tree, Shape),

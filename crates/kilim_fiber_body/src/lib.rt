@@ -14,9 +14,9 @@ mod members;
 mod operands;
 mod pass;
 
-pub use answers::{done, found, found_none, pause, take};
+pub use answers::{done, found, found_none, pause, put_done, take, wait};
 pub use births::{begun_body, first_body};
-pub use body::{Body, Came};
+pub use body::{Apart, Body, Came};
 pub use code::Code;
 pub use copies::copy;
 pub use legs::reach;

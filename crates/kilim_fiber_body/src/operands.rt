@@ -11,12 +11,13 @@ use kilim_program::{Program, Value};
 use kilim_run_state::frames::Frames;
 use kilim_units::NoMemory;
 
-/// Copies of the operands. No built-in method but a member of `kilim/Fiber` has more than two.
+/// Copies of the operands. No built-in method but a member of `kilim/Fiber` has more than three.
 #[derive(Drop)]
 pub enum Operands {
     None,
     One(Value),
     Two(Value, Value),
+    Three(Value, Value, Value),
     More,
 }
 
@@ -28,6 +29,23 @@ fn operand(frames: &Frames, depth: usize) -> Result<Value, NoMemory>
         return Err(NoMemory);
     };
     Ok(copy)
+}
+
+fn copy_three(frames: &Frames) -> Result<Operands, NoMemory>
+    requires three { frames.now.operands ≡ 3 }
+    requires there { 3 ≤ length frames.now.top.stack.values }
+    ensures { IfOk result (AreOperands frames.now) }
+{
+    let Ok(first) = operand(frames, 2) else {
+        return Err(NoMemory);
+    };
+    let Ok(second) = operand(frames, 1) else {
+        return Err(NoMemory);
+    };
+    let Ok(third) = operand(frames, 0) else {
+        return Err(NoMemory);
+    };
+    Ok(Operands::Three(first, second, third))
 }
 
 /// The operands that the frames tell.
@@ -52,6 +70,7 @@ pub fn copy_operands(frames: &Frames) -> Result<Operands, NoMemory>
             };
             Ok(Operands::Two(first, second))
         }
+        3 => copy_three(frames),
         _ => Ok(Operands::More),
     }
 }

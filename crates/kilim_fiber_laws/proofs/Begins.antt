@@ -66,7 +66,7 @@ module _ (set : Setting) (W : Program) (marks : List (List Bool)) (served : CanS
   -- ---- task 0
 
   boots_at : (t x next : ℕ) (frames : List Activation) (c : MethodId) → constructor_of p set.main ≡ Some c → constructor_of W set.main ≡ Some c → (a : Method) → method_at p c ≡ Some a → a.built_in ≡ false → begun_with W (Some c) (Ref x ∷ []) ≡ Some frames →
-      IsFiberOf set W marks t (new_course Boot) (record { frames = frames; fiber = new_fiber; heap = insert empty x (new_object p set.main); next = next; done = 0; boxes = 0; kept = Some x })
+      IsFiberOf set W marks t (new_course Boot) (record { frames = frames; fiber = new_fiber; heap = insert empty x (new_object p set.main); next = next; done = 0; boxes = 0; kept = Some x; aside = [] })
   boots_at t x next frames c old new a at own e =
       let b = twin_of c a at in
       let code : b.method.built_in ≡ false = b.built_in ∙ own in
@@ -78,12 +78,12 @@ module _ (set : Setting) (W : Program) (marks : List (List Bool)) (served : CanS
       let boot = boot_like set x (entered p c (Ref x ∷ []) ∷ []) (in_p x) in
       let like = subst (λ (z : Lone). held.Like z (held.as_lone (record { frames = entered p c (Ref x ∷ []) ∷ []; heap = insert empty x (new_object p set.main); done = 0; boxes = 0; kept = Some x }))) (same_Some _ _ (sym boot.1 ∙ begins)) boot.2 in
       let i = like.is in
-      subst (λ (fs : List Activation). IsFiberOf set W marks t (new_course Boot) (record { frames = fs; fiber = new_fiber; heap = insert empty x (new_object p set.main); next = next; done = 0; boxes = 0; kept = Some x })) first
+      subst (λ (fs : List Activation). IsFiberOf set W marks t (new_course Boot) (record { frames = fs; fiber = new_fiber; heap = insert empty x (new_object p set.main); next = next; done = 0; boxes = 0; kept = Some x; aside = [] })) first
       (record {
         lone = l;
         is = record { first = l; begins = begins; follows = refl };
         holds = record {
-          at = record { frames = entered W c (Ref 0 ∷ []) ∷ []; fiber = new_fiber; heap = heap; next = 1; done = 0; boxes = 0; kept = Some 0 };
+          at = record { frames = entered W c (Ref 0 ∷ []) ∷ []; fiber = new_fiber; heap = heap; next = 1; done = 0; boxes = 0; kept = Some 0; aside = [] };
           reached = record { begun = l; begins = begins; comes = λ rest k more. (k ∷ more, 0, ap (constructing_in set W marks (world_at t l rest []) (k ∷ more)) new) };
           like = record {
             of = like.of;
@@ -94,6 +94,7 @@ module _ (set : Setting) (W : Program) (marks : List (List Bool)) (served : CanS
               done = refl;
               boxes = refl;
               kept = i.kept;
+              aside = tt;
               below = i.below;
             };
           };
@@ -110,14 +111,14 @@ module _ (set : Setting) (W : Program) (marks : List (List Bool)) (served : CanS
       by false true e = absurd (false≢true e)
 
   pub boots : (t x next : ℕ) (frames : List Activation) → begun_with W (constructor_of W set.main) (Ref x ∷ []) ≡ Some frames →
-      IsFiberOf set W marks t (new_course Boot) (record { frames = frames; fiber = new_fiber; heap = insert empty x (new_object p set.main); next = next; done = 0; boxes = 0; kept = Some x })
+      IsFiberOf set W marks t (new_course Boot) (record { frames = frames; fiber = new_fiber; heap = insert empty x (new_object p set.main); next = next; done = 0; boxes = 0; kept = Some x; aside = [] })
   boots t x next frames e =
       let parts = and_parts (is_concrete (class_at p set.main)) _ served.run.main in
       let there : class_at p set.main ≢ None = λ none. false≢true (sym (ap is_concrete none) ∙ parts.0) in
       by (constructor_of p set.main) refl (and_parts (is_task p set.main) _ parts.1).1 (constructor_is_same p W marks served.run.keeps served.run.form served.woven set.main there)
     where
       by : (o : Option MethodId) → constructor_of p set.main ≡ o → is_own_constructor (o >>= method_at p) ≡ true → constructor_of W set.main ≡ constructor_of p set.main →
-          IsFiberOf set W marks t (new_course Boot) (record { frames = frames; fiber = new_fiber; heap = insert empty x (new_object p set.main); next = next; done = 0; boxes = 0; kept = Some x })
+          IsFiberOf set W marks t (new_course Boot) (record { frames = frames; fiber = new_fiber; heap = insert empty x (new_object p set.main); next = next; done = 0; boxes = 0; kept = Some x; aside = [] })
       by None old is same = absurd (false≢true is)
       by (Some c) old is same =
           let a = own_method (method_at p c) is in
@@ -126,11 +127,11 @@ module _ (set : Setting) (W : Program) (marks : List (List Bool)) (served : CanS
   -- ---- a started task
 
   empty_at : Standing
-  empty_at = record { frames = []; fiber = new_fiber; heap = empty; next = 0; done = 0; boxes = 0; kept = None }
+  empty_at = record { frames = []; fiber = new_fiber; heap = empty; next = 0; done = 0; boxes = 0; kept = None; aside = [] }
 
   like_empty : Like empty_at empty_at
   unfolding empty_at
-  like_empty = record { of = no_names; is = record { frames = tt; fiber = (tt, (refl, tt, tt), tt, refl, refl); heaps = nothing empty; done = refl; boxes = refl; kept = tt; below = none_below } }
+  like_empty = record { of = no_names; is = record { frames = tt; fiber = (tt, (refl, tt, tt), tt, refl, refl); heaps = nothing empty; done = refl; boxes = refl; kept = tt; aside = tt; below = none_below } }
 
   passes_first : (test : MethodId → Bool) (ms : List MethodId) (m : MethodId) → first_that test ms ≡ Some m → test m ≡ true
   passes_first test [] m e = absurd (none-some m e)
@@ -157,7 +158,7 @@ module _ (set : Setting) (W : Program) (marks : List (List Bool)) (served : CanS
     record Root : Type 0 where
       objects : List Object
       builds : built p OfTask 0 shape ≡ Some objects
-      like : Like (record { frames = []; fiber = new_fiber; heap = with_objects empty 0 objects; next = length objects; done = 0; boxes = 0; kept = None }) (record { frames = []; fiber = new_fiber; heap = heap; next = 0; done = 0; boxes = 0; kept = None })
+      like : Like (record { frames = []; fiber = new_fiber; heap = with_objects empty 0 objects; next = length objects; done = 0; boxes = 0; kept = None; aside = [] }) (record { frames = []; fiber = new_fiber; heap = heap; next = 0; done = 0; boxes = 0; kept = None; aside = [] })
       named : like.of 0 ≡ Some x
       class : ClassId
       task : is_task p class ≡ true
@@ -177,7 +178,7 @@ module _ (set : Setting) (W : Program) (marks : List (List Bool)) (served : CanS
         record {
           objects = w.objects;
           builds = w.builds;
-          like = record { of = w.of; is = record { frames = tt; fiber = w.is.fiber; heaps = w.is.heaps; done = refl; boxes = refl; kept = tt; below = λ n y e. let lt = w.is.below n y e in omega (arith, lt) } };
+          like = record { of = w.of; is = record { frames = tt; fiber = w.is.fiber; heaps = w.is.heaps; done = refl; boxes = refl; kept = tt; aside = tt; below = λ n y e. let lt = w.is.below n y e in omega (arith, lt) } };
           named = w.named;
           class = k.class;
           task = k.task;
@@ -228,20 +229,20 @@ module _ (set : Setting) (W : Program) (marks : List (List Bool)) (served : CanS
         ap (lone_built p) root.builds ∙ ap (lone_in (with_objects empty 0 root.objects) (length root.objects) None) (ap (λ (o : Option MethodId). begun_on p o 0) (root.first p ∙ ex.is_old) ∙ ap (begun_in p ex.method 0) ex.in_old)
 
     -- with code
-    starts : (next : ℕ) (top : Activation) (below : List Activation) → Executed (top ∷ below) → IsFiberOf set W marks t (new_course (Begun shape)) (record { frames = top ∷ below; fiber = new_fiber; heap = heap; next = next; done = 0; boxes = 0; kept = None })
+    starts : (next : ℕ) (top : Activation) (below : List Activation) → Executed (top ∷ below) → IsFiberOf set W marks t (new_course (Begun shape)) (record { frames = top ∷ below; fiber = new_fiber; heap = heap; next = next; done = 0; boxes = 0; kept = None; aside = [] })
     starts next top below ex = by ex.new.built_in refl ex.begun
       where
-        code_at : ex.new.built_in ≡ false → entered W ex.method (Ref x ∷ Fiber ∷ []) ∷ [] ≡ top ∷ below → IsFiberOf set W marks t (new_course (Begun shape)) (record { frames = top ∷ below; fiber = new_fiber; heap = heap; next = next; done = 0; boxes = 0; kept = None })
+        code_at : ex.new.built_in ≡ false → entered W ex.method (Ref x ∷ Fiber ∷ []) ∷ [] ≡ top ∷ below → IsFiberOf set W marks t (new_course (Begun shape)) (record { frames = top ∷ below; fiber = new_fiber; heap = heap; next = next; done = 0; boxes = 0; kept = None; aside = [] })
         code_at code frames =
             let l : Lone = lone_of (entered p ex.method (Ref 0 ∷ []) ∷ []) in
             let begins : lone_begun set (Begun shape) ≡ Some l = begins_with (top ∷ below) ex ∙ ap (λ (z : Bool). Some (lone_of (cond z [] (entered p ex.method (Ref 0 ∷ []) ∷ [])))) (sym ex.same ∙ code) in
             let i = root.like.is in
-            subst (λ (fs : List Activation). IsFiberOf set W marks t (new_course (Begun shape)) (record { frames = fs; fiber = new_fiber; heap = heap; next = next; done = 0; boxes = 0; kept = None })) frames
+            subst (λ (fs : List Activation). IsFiberOf set W marks t (new_course (Begun shape)) (record { frames = fs; fiber = new_fiber; heap = heap; next = next; done = 0; boxes = 0; kept = None; aside = [] })) frames
             (record {
               lone = l;
               is = record { first = l; begins = begins; follows = refl };
               holds = record {
-                at = record { frames = entered W ex.method (Ref 0 ∷ Fiber ∷ []) ∷ []; fiber = new_fiber; heap = with_objects empty 0 root.objects; next = length root.objects; done = 0; boxes = 0; kept = None };
+                at = record { frames = entered W ex.method (Ref 0 ∷ Fiber ∷ []) ∷ []; fiber = new_fiber; heap = with_objects empty 0 root.objects; next = length root.objects; done = 0; boxes = 0; kept = None; aside = [] };
                 reached = record {
                   begun = l;
                   begins = begins;
@@ -262,13 +263,14 @@ module _ (set : Setting) (W : Program) (marks : List (List Bool)) (served : CanS
                     done = refl;
                     boxes = refl;
                     kept = tt;
+                    aside = tt;
                     below = i.below;
                   };
                 };
               };
             })
 
-        by : (z : Bool) → ex.new.built_in ≡ z → cond z [] (entered W ex.method (Ref x ∷ Fiber ∷ []) ∷ []) ≡ top ∷ below → IsFiberOf set W marks t (new_course (Begun shape)) (record { frames = top ∷ below; fiber = new_fiber; heap = heap; next = next; done = 0; boxes = 0; kept = None })
+        by : (z : Bool) → ex.new.built_in ≡ z → cond z [] (entered W ex.method (Ref x ∷ Fiber ∷ []) ∷ []) ≡ top ∷ below → IsFiberOf set W marks t (new_course (Begun shape)) (record { frames = top ∷ below; fiber = new_fiber; heap = heap; next = next; done = 0; boxes = 0; kept = None; aside = [] })
         by true code e = absurd (cc)
         by false code e = code_at code e
 

@@ -25,15 +25,15 @@ use Rattle.kilim_fiber_laws.proofs.Given.{Whole, all_well, next_whole}
 use Rattle.kilim_fiber_laws.proofs.Reached.{acts, along, first, is_fine, next_comes, next_like}
 use Rattle.kilim_fiber_laws.specs.Fibers.{Holds, IsFiberOf, IsReached}
 use Rattle.kilim_fiber_laws.specs.Laws.{NextFollows}
-use Rattle.kilim_fiber_laws.specs.Nexts.{CanGiveAway, CanReceive, NextIs}
+use Rattle.kilim_fiber_laws.specs.Nexts.{CanGiveAway, CanReceive, NextIs, CanWait}
 use Rattle.kilim_fiber_laws.specs.Served.{CanServe}
 use Rattle.kilim_fiber_laws.specs.woven_kin.history.History.{ComesTo, Follows, GoesOn, GoesOnWith, Reaches, took, world_of}
 use Rattle.kilim_fiber_laws.proofs.woven_kin.Trees.{came, left, sound}
-use Rattle.kilim_fiber_laws.specs.woven_kin.Alike.{Giving, Like, NextLike}
+use Rattle.kilim_fiber_laws.specs.woven_kin.Alike.{ApartKin, Giving, Like, NextLike}
 use Rattle.kilim_fiber_laws.specs.woven_kin.Laws.{tree_came, tree_left}
-use Rattle.kilim_fiber_laws.specs.woven_kin.Nexts.{Next, Goes, Puts, Gets, Probes, Starts, Prints, Rests, Ends, Stands, next_of, with_result, PutWaits, Bounds}
+use Rattle.kilim_fiber_laws.specs.woven_kin.Nexts.{Next, Goes, Puts, Gets, Probes, Starts, Prints, Rests, Ends, Stands, next_of, with_result, PutWaits, Bounds, PutsAgain, apart_at}
 use Rattle.kilim_fiber_laws.specs.woven_kin.Standing.{Standing}
-use Rattle.kilim_fiber_spec.specs.Acts.{Action}
+use Rattle.kilim_fiber_spec.specs.Acts.{Action, Apart, World}
 use Rattle.kilim_fiber_spec.specs.Acts as action
 use Rattle.kilim_fiber_spec.specs.Fibers.{Woven_state}
 use Rattle.kilim_fiber_spec.specs.Rooms.{IsWholeAt}
@@ -44,7 +44,7 @@ use Rattle.kilim_fiber_laws.specs.receivers.states.Law.{StandsBefore}
 null_like : (a g : Standing) → Like a g → Like (with_result (Some Null) a) (with_result (Some Null) g)
 null_like a g like =
     let i = like.is in
-    record { of = like.of; is = record { frames = kin_push like.of Null Null a.frames g.frames tt i.frames; fiber = i.fiber; heaps = i.heaps; done = i.done; boxes = i.boxes; kept = i.kept; below = i.below } }
+    record { of = like.of; is = record { frames = kin_push like.of Null Null a.frames g.frames tt i.frames; fiber = i.fiber; heaps = i.heaps; done = i.done; boxes = i.boxes; kept = i.kept; aside = i.aside; below = i.below } }
 
 module _ (set : Setting) (W : Program) (marks : List (List Bool)) (served : CanServe set W marks) (t : ℕ) (c : Course) (f : Standing) (is : IsFiberOf set W marks t c f) where
   abbrev p : Program
@@ -92,6 +92,14 @@ module _ (set : Setting) (W : Program) (marks : List (List Bool)) (served : CanS
   within : (a : Action) (y g : Standing) → (comes : ComesTo set W marks t from c.deeds done a y) → y.done ≡ g.done → comes.2.done < set.limits.steps → g.done ≤ set.limits.steps
   within a y g comes same left = let more = comes.7 in omega (arith, more, same, left)
 
+  -- no other tree stands apart then
+  alone : (a : Action) (y g : Standing) → (comes : ComesTo set W marks t from c.deeds done a y) → ApartKin y.aside g.aside → g.aside ≡ []
+  alone a y g comes kin = none g.aside (subst (λ (ks : List Apart). ApartKin ks g.aside) (sym comes.8 ∙ ap (λ (z : World). z.aside) (before a y comes).world) kin)
+    where
+      none : (ks : List Apart) → ApartKin [] ks → ks ≡ []
+      none [] e = refl
+      none (k ∷ ks) e = absurd e
+
   -- ---- a tree leaves
 
   gives_away : (root : Root) (n m : ℕ) (shape : List Token) (deed : ℕ → Deed) (a g : Standing) → Giving p root n m shape a g → IsWholeAt p root a.heap n → (mid : Lone) → ((k : ℕ) → done_by set (next_action set t last) (deed k) ≡ Some (record { act = (deed k).act; after = mid }))
@@ -127,12 +135,34 @@ module _ (set : Setting) (W : Program) (marks : List (List Bool)) (served : CanS
         within (action.Puts box n shape) a g r.0 giving.is.done (is_left set t c (action.Puts box n shape) r.0.2 (before (action.Puts box n shape) a r.0)),
       )
 
-  put_wait_so : (box : BoxName) (n m : ℕ) (shape : List Token) (a g : Standing) → Giving p OfMessage n m shape a g → IsWholeAt p OfMessage a.heap n → Follows set W marks t from c.deeds done (PutWaits box n shape a) → Is (PutWaits box m shape g)
-  put_wait_so box n m shape a g giving object r =
+  -- while it waits, its tree stands apart on both sides
+  waits : (n m : ℕ) (shape : List Token) (a g : Standing) → Giving p OfMessage n m shape a g → IsWholeAt p OfMessage a.heap n → Reaches set W marks t from c.deeds done (apart_at p n shape a) → CanWait set W marks t c m shape g
+  waits n m shape a g giving object reach heap tree out root full =
+      let given : IsGiven p OfMessage g.heap m = is_given p OfMessage giving.of a.heap g.heap n m giving.is.heaps giving.named (all_well p OfMessage a.heap n object) object.tree in
+      let w = left p OfMessage n m shape a g giving given heap tree out in
+      let i = w.is in
+      still (apart_at p n shape a) (record g { heap = heap; aside = record { root = root; shape = shape; heap = full } ∷ g.aside })
+      (record { of = w.of; is = record { frames = i.frames; fiber = i.fiber; heaps = i.heaps; done = i.done; boxes = i.boxes; kept = i.kept; aside = (refl, giving.is.aside); below = i.below } }) reach
+
+  put_wait_so : (box : BoxName) (n m : ℕ) (shape : List Token) (paused q a g : Standing) → Giving p OfMessage n m shape paused q → Giving p OfMessage n m shape a g → IsWholeAt p OfMessage paused.heap n → IsWholeAt p OfMessage a.heap n →
+      Follows set W marks t from c.deeds done (PutWaits box n shape paused a) → Is (PutWaits box m shape q g)
+  put_wait_so box n m shape paused q a g rests giving resting object r =
       let w = action_of (action.PutWaits box n shape) a r.0 in (
         (n, w.0, w.1),
-        gives_away OfMessage n m shape (λ k. plain (act.Put box k shape)) a g giving object (course.tree_left p n w.0) (λ k. ap (λ (z : thread.Next). done_by set z (plain (act.Put box k shape))) w.1) r.1,
+        waits n m shape paused q rests resting r.1,
+        gives_away OfMessage n m shape (λ k. plain (act.Put box k shape)) a g giving object (course.tree_left p n w.0) (λ k. ap (λ (z : thread.Next). done_by set z (plain (act.Put box k shape))) w.1) r.2,
         within (action.PutWaits box n shape) a g r.0 giving.is.done (is_left set t c (action.PutWaits box n shape) r.0.2 (before (action.PutWaits box n shape) a r.0)),
+        alone (action.PutWaits box n shape) a g r.0 giving.is.aside,
+      )
+
+  put_again_so : (box : BoxName) (n m : ℕ) (shape : List Token) (whole full paused q a g : Standing) → whole.done ≡ g.done → whole.aside ≡ a.aside → Like paused q → Like a g → Follows set W marks t from c.deeds done (PutsAgain box n shape whole paused a) → Is (PutsAgain box m shape full q g)
+  put_again_so box n m shape whole full paused q a g same apart rests like r =
+      let w = action_of (action.PutWaits box n shape) whole r.0 in (
+        (n, w.0, w.1),
+        still paused q rests r.1,
+        λ k. behind (plain (act.Put box k shape)) (course.tree_left p n w.0) (ap (λ (z : thread.Next). done_by set z (plain (act.Put box k shape))) w.1) a g (r.2 k) like,
+        within (action.PutWaits box n shape) whole g r.0 same (is_left set t c (action.PutWaits box n shape) r.0.2 (before (action.PutWaits box n shape) whole r.0)),
+        alone (action.PutWaits box n shape) whole g r.0 (subst (λ (ks : List Apart). ApartKin ks g.aside) (sym apart) like.is.aside),
       )
 
   bound_so : (box : BoxName) (most : ℕ) (a g : Standing) → Like a g → Follows set W marks t from c.deeds done (Bounds box most a) → Is (Bounds box most g)
@@ -176,9 +206,12 @@ module _ (set : Setting) (W : Program) (marks : List (List Bool)) (served : CanS
   leads (Puts box n shape a) (Puts other m again g) like object r =
       subst (λ (z : BoxName). Is (Puts z m again g)) like.0
       (subst (λ (z : List Token). Is (Puts box m z g)) like.1 (put_so box n m shape a g like.2 object r))
-  leads (PutWaits box n shape a) (PutWaits other m again g) like object r =
-      subst (λ (z : BoxName). Is (PutWaits z m again g)) like.0
-      (subst (λ (z : List Token). Is (PutWaits box m z g)) like.1 (put_wait_so box n m shape a g like.2 object r))
+  leads (PutWaits box n shape paused a) (PutWaits other m again q g) like object r =
+      subst (λ (z : BoxName). Is (PutWaits z m again q g)) like.0
+      (subst (λ (z : List Token). Is (PutWaits box m z q g)) like.1 (put_wait_so box n m shape paused q a g like.2 like.3 object.0 object.1 r))
+  leads (PutsAgain box n shape whole paused a) (PutsAgain other m again full q g) like object r =
+      subst (λ (z : BoxName). Is (PutsAgain z m again full q g)) like.0
+      (subst (λ (z : List Token). Is (PutsAgain box m z full q g)) like.1 (put_again_so box n m shape whole full paused q a g like.2 like.3 like.4 like.5 r))
   leads (Bounds box most a) (Bounds other least g) like object r = subst (λ (z : BoxName). Is (Bounds z least g)) like.0 (subst (λ (z : ℕ). Is (Bounds box z g)) like.1 (bound_so box most a g like.2 r))
   leads (Gets box paused a) (Gets other q g) like object r = subst (λ (z : BoxName). Is (Gets z q g)) like.0 (get_so box paused q a g like.1 like.2 r)
   leads (Probes box a) (Probes other g) like object r = subst (λ (z : BoxName). Is (Probes z g)) like.0 (probe_so box a g like.1 r)

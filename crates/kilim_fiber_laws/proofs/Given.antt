@@ -23,9 +23,9 @@ use Rattle.kilim_run_model.specs.Lone.{arg_at, box_limit, printed}
 use Rattle.kilim_run_model.specs.State.{Setting}
 use Rattle.kilim_fiber_laws.proofs.Reached.{GivesObjects, moves_give}
 use Rattle.kilim_fiber_laws.specs.woven_kin.history.History.{state_in}
-use Rattle.kilim_fiber_laws.specs.woven_kin.Nexts.{Next, Goes, Puts, Starts, Rests, Ends, Stands, arg_next, asks_next, begins_next, begun_with, found_next, finish_next, get_next, message_next, native_next, next_by, next_in, next_of, opens_next, print_next, put_next, resumes_next, spent_or, start_next, stood, ticked, yield_next, PutWaits, put_wait_next, wait_next, bound_next}
+use Rattle.kilim_fiber_laws.specs.woven_kin.Nexts.{Next, Goes, Puts, Starts, Rests, Ends, Stands, arg_next, asks_next, begins_next, begun_with, found_next, finish_next, get_next, message_next, native_next, next_by, next_in, next_of, opens_next, print_next, put_next, resumes_next, spent_or, start_next, stood, ticked, yield_next, PutWaits, put_wait_next, wait_next, bound_next, PutsAgain, first_wait, putw_next, taken_at, wait_again, waiting_at}
 use Rattle.kilim_fiber_laws.specs.woven_kin.Standing.{Standing}
-use Rattle.kilim_fiber_spec.specs.Acts.{World}
+use Rattle.kilim_fiber_spec.specs.Acts.{World, Apart}
 use Rattle.kilim_fiber_spec.specs.Fibers.{Fib, Fiber_at, Saved, executes_on, first_receiver, is_pausing, is_rewinding, member_does, wfetch}
 use Rattle.kilim_fiber_spec.specs.Rooms.{IsFineState, IsWholeAt}
 
@@ -35,7 +35,7 @@ all_well p root h n g = λ y b. let o = g.below y b in record { object = o.objec
 module _ (set : Setting) (W : Program) (marks : List (List Bool)) (t : ℕ) where
   abbrev pub Whole : Next → Type 0
   Whole (Puts box n shape a) = IsWholeAt set.program OfMessage a.heap n
-  Whole (PutWaits box n shape a) = IsWholeAt set.program OfMessage a.heap n
+  Whole (PutWaits box n shape paused a) = IsWholeAt set.program OfMessage paused.heap n × IsWholeAt set.program OfMessage a.heap n
   Whole (Starts n shape a) = IsWholeAt set.program OfTask a.heap n
   Whole x = Unit {0}
 
@@ -55,13 +55,25 @@ module _ (set : Setting) (W : Program) (marks : List (List Bool)) (t : ℕ) wher
     message_whole box (Ref n) g = put_whole box n (g OfMessage n refl) (shape_of set.program z.heap n)
     message_whole box _ g = tt
 
-    put_wait_whole : (box : BoxName) (n : ℕ) → IsWholeAt set.program OfMessage z.heap n → (o : Option (List Token)) → Whole (put_wait_next z box n o)
+    put_wait_whole : (box : BoxName) (n : ℕ) → IsWholeAt set.program OfMessage z.heap n → (o : Option (List Token)) → Whole (put_wait_next set.program z box n o)
     put_wait_whole box n g None = tt
-    put_wait_whole box n g (Some shape) = g
+    put_wait_whole box n g (Some shape) = (g, g)
 
-    wait_whole : (box : BoxName) (v : Value) → ((root : Root) (n : ℕ) → given (Some native.PutWait) (Box box ∷ v ∷ []) ≡ Some (root, n) → IsWholeAt set.program root z.heap n) → Whole (wait_next set.program z box v)
+    wait_whole : (box : BoxName) (v : Value) → ((root : Root) (n : ℕ) → given (Some native.PutWait) (Box box ∷ v ∷ Fiber ∷ []) ≡ Some (root, n) → IsWholeAt set.program root z.heap n) → Whole (wait_next set.program z box v)
     wait_whole box (Ref n) g = put_wait_whole box n (g OfMessage n refl) (shape_of set.program z.heap n)
     wait_whole box _ g = tt
+
+    first_whole : (v u : Value) → ((root : Root) (n : ℕ) → given (Some native.PutWait) (v ∷ u ∷ Fiber ∷ []) ≡ Some (root, n) → IsWholeAt set.program root z.heap n) → Whole (first_wait set.program z v u)
+    first_whole (Box box) u g = wait_whole box u g
+    first_whole _ u g = tt
+
+    again_whole : (v : Value) (kept : List Apart) → Whole (wait_again set z v kept)
+    again_whole (Box box) (k ∷ ks) = spent_whole true z.done (PutsAgain box k.root k.shape (taken_at (record z { heap = k.heap; aside = ks })) (waiting_at box z) (taken_at (record z { aside = ks }))) (λ left. tt)
+    again_whole _ _ = tt
+
+    putw_whole : (b : Bool) (v u : Value) → ((root : Root) (n : ℕ) → given (Some native.PutWait) (v ∷ u ∷ Fiber ∷ []) ≡ Some (root, n) → IsWholeAt set.program root z.heap n) → Whole (putw_next set b z v u)
+    putw_whole true v u g = again_whole v z.aside
+    putw_whole false v u g = spent_whole true z.done (first_wait set.program z v u) (λ left. first_whole v u g)
 
     bound_whole : (box : BoxName) (i : ℤ) → Whole (bound_next z box i)
     bound_whole box (pos (suc n)) = tt
@@ -107,7 +119,7 @@ module _ (set : Setting) (W : Program) (marks : List (List Bool)) (t : ℕ) wher
     native_whole native.ArgCount [] g = tt
     native_whole native.Start (Ref n ∷ []) g = start_whole n (g OfTask n refl) (shape_of set.program z.heap n)
     native_whole native.Put (Box box ∷ v ∷ []) g = message_whole box v g
-    native_whole native.PutWait (Box box ∷ v ∷ []) g = wait_whole box v g
+    native_whole native.PutWait (v ∷ u ∷ Fiber ∷ []) g = putw_whole (is_rewinding z.fiber) v u g
     native_whole native.Bound (Box box ∷ Int i ∷ []) g = bound_whole box i
     native_whole native.Get (v ∷ Fiber ∷ []) g = spent_whole true z.done (get_next z v) (λ left. get_whole v)
     native_whole native.Print (v ∷ []) g = print_whole (printed v)

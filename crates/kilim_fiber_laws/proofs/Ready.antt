@@ -6,7 +6,7 @@ use Rattle.std.proofs.lemmas.Bool.{false≢true}
 use Rattle.std.proofs.lemmas.Option.{same_Some, none-some}
 use Rattle.kilim_program.specs.declared.names.MethodId.{MethodId}
 use Rattle.kilim_program.specs.declared.value.Value.{Value}
-use Rattle.kilim_program.specs.declared.value.Value.TheVariants.{Ref, Box}
+use Rattle.kilim_program.specs.declared.value.Value.TheVariants.{Box, Fiber, Ref}
 use Rattle.kilim_program.specs.Names.{◌>>=◌}
 use Rattle.kilim_program.specs.Program.{Program}
 use Rattle.kilim_fiber_spec.proofs.fiber_kin.Belows.{object_at}
@@ -121,6 +121,7 @@ module _ (W : Program) (of : Names) where
   back_by : (root : Root) (x : ℕ) (o : Option Native) (args : List Value) → AreKin of args (map (renamed of) args) → given o (map (renamed of) args) ≡ Some (root, x) → Back o args root x
   back_by root x (Some native.Put) (Box box ∷ Ref n ∷ []) kin e = back_at (Some native.Put) (Box box ∷ Ref n ∷ []) root x n (OfMessage, number_of (of n)) refl kin.1.0 e
   back_by root x (Some native.PutWait) (Box box ∷ Ref n ∷ []) kin e = back_at (Some native.PutWait) (Box box ∷ Ref n ∷ []) root x n (OfMessage, number_of (of n)) refl kin.1.0 e
+  back_by root x (Some native.PutWait) (Box box ∷ Ref n ∷ Fiber ∷ []) kin e = back_at (Some native.PutWait) (Box box ∷ Ref n ∷ Fiber ∷ []) root x n (OfMessage, number_of (of n)) refl kin.1.0 e
   back_by root x (Some native.Start) (Ref n ∷ []) kin e = back_at (Some native.Start) (Ref n ∷ []) root x n (OfTask, number_of (of n)) refl kin.0 e
   back_by root x _ _ kin e = absurd (none-some (root, x) e)
 

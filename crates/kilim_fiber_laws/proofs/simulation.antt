@@ -14,6 +14,7 @@ pub mod Natural
 pub mod Forward
 pub mod PlainStep
 pub mod Leaves
+pub mod Waits
 pub mod CallStep
 pub mod Begins
 pub mod Whole

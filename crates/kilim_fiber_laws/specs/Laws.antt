@@ -53,7 +53,7 @@ abbrev pub TasksBegin : Type 0
 TasksBegin =
     (set : Setting) (W : Program) (marks : List (List Bool)) → CanServe set W marks → (t : ℕ) (tree : List Object) (shape : List Token) (heap : Objects) (x next : ℕ) (top : Activation) (below : List Activation) →
     IsSound set.program OfTask tree shape → PutIn empty tree heap x → begun_with W (executes_on W heap (Ref x)) (Ref x ∷ Fiber ∷ []) ≡ Some (top ∷ below) →
-    IsFiberOf set W marks t (new_course (Begun shape)) (record { frames = top ∷ below; fiber = new_fiber; heap = heap; next = next; done = 0; boxes = 0; kept = None })
+    IsFiberOf set W marks t (new_course (Begun shape)) (record { frames = top ∷ below; fiber = new_fiber; heap = heap; next = next; done = 0; boxes = 0; kept = None; aside = [] })
 
 -- Where its `execute` is the built-in one, it has no frame, and the thread ends next: it is done, or spent where it may do no instruction.
 abbrev pub TasksEnd : Type 0
@@ -66,4 +66,4 @@ TasksEnd =
 abbrev pub FirstBegins : Type 0
 FirstBegins =
     (set : Setting) (W : Program) (marks : List (List Bool)) → CanServe set W marks → (t x next : ℕ) (frames : List Activation) → begun_with W (constructor_of W set.main) (Ref x ∷ []) ≡ Some frames →
-    IsFiberOf set W marks t (new_course Boot) (record { frames = frames; fiber = new_fiber; heap = insert empty x (new_object set.program set.main); next = next; done = 0; boxes = 0; kept = Some x })
+    IsFiberOf set W marks t (new_course Boot) (record { frames = frames; fiber = new_fiber; heap = insert empty x (new_object set.program set.main); next = next; done = 0; boxes = 0; kept = Some x; aside = [] })

@@ -19,7 +19,7 @@ use Rattle.kilim_run_model.specs.State.{Setting}
 use Rattle.kilim_run_trees.specs.Moved.{PutIn, TakenOut}
 use Rattle.kilim_fiber_laws.specs.Fibers.{Holds, IsFiberOf}
 use Rattle.kilim_fiber_laws.specs.woven_kin.history.History.{took}
-use Rattle.kilim_fiber_laws.specs.woven_kin.Nexts.{Next, Goes, Puts, PutWaits, Bounds, Gets, Probes, Starts, Prints, Rests, Ends, Stands, with_result}
+use Rattle.kilim_fiber_laws.specs.woven_kin.Nexts.{Next, Goes, Puts, PutWaits, Bounds, Gets, Probes, Starts, Prints, Rests, Ends, Stands, with_result, PutsAgain}
 use Rattle.kilim_fiber_laws.specs.woven_kin.Standing.{Standing}
 
 module _ (set : Setting) (W : Program) (marks : List (List Bool)) (t : ℕ) (c : Course) where
@@ -39,16 +39,22 @@ module _ (set : Setting) (W : Program) (marks : List (List Bool)) (t : ℕ) (c :
       IsGiven set.program root f.heap m
       × ((heap : Objects) (tree : List Object) → TakenOut f.heap m heap tree → IsSound set.program root tree shape × ((n : ℕ) → Behind (deed n) (record f { heap = heap })))
 
+  -- While it waits, its tree is out of the heap, and stands apart; what stands there for the heap with it is nowhere looked at.
+  abbrev pub CanWait : ℕ → List Token → Standing → Type 0
+  CanWait m shape f = (heap : Objects) (tree : List Object) → TakenOut f.heap m heap tree → (root : ℕ) (full : Objects) → Holds set W marks t c (record f { heap = heap; aside = record { root = root; shape = shape; heap = full } ∷ f.aside })
+
   -- Where it goes on, pauses or rests it is still a fiber of the course. Where it acts, that is the next action of the thread `last` of the course;
-  -- and behind the deed it is a fiber of the further course, with a count within the limit. Where it ends, so does the thread. It is never where no
-  -- verified code comes.
+  -- and behind the deed it is a fiber of the further course, with a count within the limit. Where it ends, so does the thread. At most one tree
+  -- stands apart: none does behind a put that waits. It is never where no verified code comes.
   abbrev pub NextIs : Lone → Next → Type 0
   NextIs last (Goes f) = Holds set W marks t c f
   NextIs last (Rests f) = Holds set W marks t c f
   NextIs last (Puts box m shape f) =
       ((n : ℕ) × (after : Lone) × (next_action set t last ≡ thread.Puts box n shape after)) × CanGiveAway OfMessage m shape (λ n. plain (act.Put box n shape)) f × (f.done ≤ set.limits.steps)
-  NextIs last (PutWaits box m shape f) =
-      ((n : ℕ) × (after : Lone) × (next_action set t last ≡ thread.PutWaits box n shape after)) × CanGiveAway OfMessage m shape (λ n. plain (act.Put box n shape)) f × (f.done ≤ set.limits.steps)
+  NextIs last (PutWaits box m shape paused f) =
+      ((n : ℕ) × (after : Lone) × (next_action set t last ≡ thread.PutWaits box n shape after)) × CanWait m shape paused × CanGiveAway OfMessage m shape (λ n. plain (act.Put box n shape)) f × (f.done ≤ set.limits.steps) × (f.aside ≡ [])
+  NextIs last (PutsAgain box m shape full paused f) =
+      ((n : ℕ) × (after : Lone) × (next_action set t last ≡ thread.PutWaits box n shape after)) × Holds set W marks t c paused × ((n : ℕ) → Behind (plain (act.Put box n shape)) f) × (f.done ≤ set.limits.steps) × (f.aside ≡ [])
   NextIs last (Bounds box most f) = ((after : Lone) × (next_action set t last ≡ thread.Bounds box most after)) × Behind (plain (act.Bound box most)) f × (f.done ≤ set.limits.steps)
   NextIs last (Gets box paused f) = ((after : Lone) × (next_action set t last ≡ thread.Gets box after)) × Holds set W marks t c paused × CanReceive box f × (f.done ≤ set.limits.steps)
   NextIs last (Probes box f) = ((after : Lone) × (next_action set t last ≡ thread.Probes box after)) × Behind (plain (act.Empty box)) (with_result (Some Null) f) × CanReceive box f × (f.done ≤ set.limits.steps)

@@ -21,6 +21,12 @@ use Rattle.kilim_run_state.specs.Trees.{OfMessage, tree_names, without, with_obj
 
 -- ---- the world of a task
 
+-- a tree that stands apart while it waits to be put: its root, its shape, and the heap with it
+pub record Apart : Type 0 where
+  pub root : ℕ
+  pub shape : List Token
+  pub heap : Objects
+
 -- what a task has beside its frames
 pub record World : Type 0 where
   pub task : ℕ
@@ -36,6 +42,8 @@ pub record World : Type 0 where
   -- instructions done, and mailboxes made
   pub done : ℕ
   pub boxes : ℕ
+  -- what stands apart while a put waits
+  pub aside : List Apart
 
 -- what a task wants of others next; `root` is the object whose tree is put or started
 pub data Action : Type 0 where
@@ -188,3 +196,13 @@ module _ {S : Type 0} (set : Setting) (w : World) (over : Over → S) where
 
     abbrev pub opens_box : World → S
     opens_box after = if nat_lt w.boxes box_limit then go (record after { boxes = w.boxes + 1 }) (Some (Box (record { task = w.task; number = w.boxes }))) else ending cause.Boxes
+
+-- ---- a put that waits
+
+-- the tree leaves the heap, and stands apart
+abbrev pub apart : Setting → ℕ → List Token → World → World
+apart set n shape w = record w { heap = without w.heap (tree_names set.program w.heap n); aside = record { root = n; shape = shape; heap = w.heap } ∷ w.aside }
+
+-- and the heap has it again
+abbrev pub together : Objects → List Apart → World → World
+together was others w = record w { heap = was; aside = others }

@@ -2,12 +2,18 @@
 use Rattle.std.specs.Prelude.{ℕ, zero, suc, nat_lt, Bool, true, false, not, ◌&&◌, ◌==◌, if◌then◌else◌, pos, List, [], ◌∷◌, Option, Some, None, length, slice_get}
 use Rattle.std.specs.FinMap.{get}
 use Rattle.kilim_run_state.specs.declared.cause.EndCause.TheVariants as cause
+use Rattle.kilim_run_state.specs.declared.value.Token.{Token}
+use Rattle.kilim_run_state.specs.Shapes.{shape_of}
+use Rattle.kilim_run_journal.specs.declared.entry.Act.{Act}
+use Rattle.kilim_run_journal.specs.declared.entry.Act.TheVariants.{Put}
+use Rattle.kilim_run_model.specs.declared.deed.Deed.{Deed}
+use Rattle.kilim_program.specs.declared.names.BoxName.{BoxName}
 use Rattle.kilim_program.specs.declared.class.Method.{Method}
 use Rattle.kilim_program.specs.declared.instr.Instr.{Instr}
 use Rattle.kilim_program.specs.declared.names.MethodId.{MethodId}
 use Rattle.kilim_run_state.specs.declared.value.Object.{Object}
 use Rattle.kilim_program.specs.declared.value.Value.{Value}
-use Rattle.kilim_program.specs.declared.value.Value.TheVariants.{Int, Null, Ref, Fiber}
+use Rattle.kilim_program.specs.declared.value.Value.TheVariants.{Int, Null, Ref, Fiber, Box}
 use Rattle.kilim_program.specs.Program.{Program}
 use Rattle.kilim_run_state.specs.Machine.{Objects, Activation}
 use Rattle.kilim_program.specs.Names.{◌>>=◌, method_at}
@@ -19,7 +25,7 @@ use Rattle.kilim_run_machine.specs.Does.{does}
 use Rattle.kilim_run_machine.specs.Moves.{frame_limit, entered}
 use Rattle.kilim_program.specs.Lengths.{first_place}
 use Rattle.kilim_run_model.specs.State.{Setting, class_of}
-use Rattle.kilim_fiber_spec.specs.Acts.{World, Over, Lost, counted, with_heap, ending, spending, makes, opens_box, native_does}
+use Rattle.kilim_fiber_spec.specs.Acts.{Apart, World, Over, Astray, Lost, PutWaits, acting, apart, behind, counted, with_heap, ending, spending, makes, native_does, opens_box, together}
 use Rattle.kilim_fiber_spec.specs.Thread.{push, own_of}
 
 -- ---- the fiber
@@ -208,6 +214,41 @@ module _ (set : Setting) (W : Program) (marks : List (List Bool)) where
     getting (box ∷ []) f w ps = gets (box ∷ []) box f w ps
     getting args f w ps = WStop Lost
 
+    -- A full mailbox is seen so many times: the tree leaves the heap at the first, and stands apart until the put is made.
+    abbrev pub waits_on : BoxName → ℕ → Option (List Token) → Fib → World → ℕ → List ℕ → Woven_state
+    waits_on box n None f w k ps = spending set w WStop (ending set w WStop cause.Large)
+    waits_on box n (Some shape) f w k ps = go (pausing (Box box) f) (apart set n shape w) (k ∷ ps) None
+
+    abbrev pub puts_now : List Value → Fib → World → List ℕ → Woven_state
+    puts_now args f w ps = spending set w WStop (native_does set w WStop (λ after v. go (rewound f) after ps v) native.PutWait args)
+
+    abbrev pub waits : List Value → Fib → World → List ℕ → Woven_state
+    waits (Box box ∷ Ref n ∷ []) f w (suc k ∷ ps) = waits_on box n (shape_of set.program w.heap n) f w k ps
+    waits args f w (zero ∷ ps) = puts_now args f w ps
+    waits args f w ps = puts_now args f w ps
+
+    -- made again: its tree is what stands apart
+    abbrev pub put_again : BoxName → List Token → Fib → World → World → List ℕ → Act → List Deed → Woven_state
+    put_again box shape f w full ps (Put b k s) rest = go (rewound f) (record (behind set full WStop (Put box k shape) rest) { heap = w.heap }) ps None
+    put_again box shape f w full ps act rest = WStop Astray
+
+    abbrev pub puts_again : BoxName → Apart → Fib → World → World → List ℕ → Woven_state
+    puts_again box kept f w full ps = spending set full WStop (acting set full WStop (PutWaits box kept.root kept.shape) (λ deed rest. put_again box kept.shape f w full ps deed.act rest))
+
+    abbrev pub waits_again : BoxName → Apart → List Apart → Fib → World → List ℕ → Woven_state
+    waits_again box kept others f w (suc k ∷ ps) = go (pausing (Box box) f) w (k ∷ ps) None
+    waits_again box kept others f w (zero ∷ ps) = puts_again box kept f w (together kept.heap others w) ps
+    waits_again box kept others f w [] = puts_again box kept f w (together kept.heap others w) []
+
+    abbrev pub puts_kept : List Apart → List Value → Fib → World → List ℕ → Woven_state
+    puts_kept (kept ∷ others) (Box box ∷ v ∷ []) f w ps = waits_again box kept others f w ps
+    puts_kept kept args f w ps = WStop Lost
+
+    abbrev pub putting : List Value → Fib → World → List ℕ → Woven_state
+    putting (v ∷ u ∷ []) (Fiber_at lo r de true pa) w ps = puts_kept w.aside (v ∷ u ∷ []) (Fiber_at lo r de true pa) w ps
+    putting (v ∷ u ∷ []) (Fiber_at lo r de false pa) w ps = waits (v ∷ u ∷ []) (Fiber_at lo r de false pa) w ps
+    putting args f w ps = WStop Lost
+
     -- a first `yield` counts and pauses; one while rewinding returns
     abbrev pub yields : Fib → World → List ℕ → Woven_state
     yields (Fiber_at lo r de true pa) w ps = go (rewound (Fiber_at lo r de true pa)) w ps None
@@ -221,12 +262,14 @@ module _ (set : Setting) (W : Program) (marks : List (List Bool)) where
     handed_does n None f w ps = WStop Lost
     handed_does native.Get (Some args) f w ps = getting args f w ps
     handed_does native.Yield (Some args) f w ps = yielding args f w ps
+    handed_does native.PutWait (Some args) f w ps = putting args f w ps
     handed_does n (Some args) f w ps = native_does set w WStop (λ after v. go f after ps v) n args
 
     -- those that can pause get the fiber as their last argument
     abbrev pub wnative : Native → List Value → Fib → World → List ℕ → Woven_state
     wnative native.Get args f w ps = handed_does native.Get (without_fiber args) f w ps
     wnative native.Yield args f w ps = handed_does native.Yield (without_fiber args) f w ps
+    wnative native.PutWait args f w ps = handed_does native.PutWait (without_fiber args) f w ps
     wnative native.Execute args f w ps = handed_does native.Execute (without_fiber args) f w ps
     wnative n args f w ps = native_does set w WStop (λ after v. go f after ps v) n args
 

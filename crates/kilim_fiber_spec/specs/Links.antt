@@ -258,6 +258,8 @@ module _ (set : Setting) (W : Program) (marks : List (List Bool)) where
     -- a call with the receiver y and dummies is a call of the target
     abbrev pub LeafTakes : Native → List Value → Value → Option Ty → Type 0
     LeafTakes native.Get args y result = (args ≡ y ∷ []) × Drops result (Some value.Null)
+    -- its tree stands apart
+    LeafTakes native.PutWait args y result = (args ≡ y ∷ value.Null ∷ []) × Drops result None
     LeafTakes native.Yield args y result = (args ≡ []) × (y ≡ value.Null) × Drops result None
     LeafTakes n args y result = ⊥
 

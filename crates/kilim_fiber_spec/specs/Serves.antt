@@ -1,13 +1,17 @@
 -- A woven fiber does what the unwoven thread does: what it rests on, and what it says.
-use Rattle.std.specs.Prelude.{◌≡◌, ◌≢◌, ◌⊎◌, ◌↔◌, ℕ, suc, ◌≤◌, Bool, true, false, List, [], ◌∷◌, Some, None, length}
+use Rattle.std.specs.Prelude.{◌≡◌, ◌≢◌, ◌⊎◌, ◌↔◌, ℕ, suc, ◌≤◌, nat_le, Bool, true, false, List, [], ◌∷◌, Some, None, length}
 use Rattle.kilim_run_state.specs.declared.cause.EndCause.{EndCause}
 use Rattle.kilim_program.specs.declared.class.Method.{Method}
 use Rattle.kilim_program.specs.declared.instr.Instr.{Instr}
+use Rattle.kilim_program.specs.declared.names.BoxName.{BoxName}
 use Rattle.kilim_program.specs.declared.names.MethodId.{MethodId}
 use Rattle.kilim_program.specs.declared.value.Value.{Value}
 use Rattle.kilim_program.specs.declared.value.Value.TheVariants as value
 use Rattle.kilim_program.specs.Program.{Program}
 use Rattle.kilim_run_state.specs.Machine.{Objects}
+use Rattle.kilim_run_state.specs.Shapes.{shape_of}
+use Rattle.kilim_run_state.specs.Trees.{tree_names, without}
+use Rattle.kilim_run_state.specs.declared.value.Token.{Token}
 use Rattle.kilim_program.specs.Names.{method_at}
 use Rattle.kilim_program.specs.Members.{execute_of}
 use Rattle.kilim_run_machine.specs.Natives.{Native, native_of}
@@ -20,7 +24,7 @@ use Rattle.kilim_type_sound.specs.Fits.{AreThere, IsThere}
 use Rattle.kilim_run_interp.specs.Step.{stack_limit}
 use Rattle.kilim_run_model.specs.State.{Setting}
 use Rattle.kilim_weave_spec.specs.Woven.{moved_instr, pausable_callee}
-use Rattle.kilim_fiber_spec.specs.Acts.{World, Over, Lost}
+use Rattle.kilim_fiber_spec.specs.Acts.{World, Over, Lost, together, Apart}
 use Rattle.kilim_fiber_spec.specs.Thread.{fetch, own_of, self_of, Frame, Thread, Run, Stop, step, steps}
 use Rattle.kilim_fiber_spec.specs.Fibers.{Fib, member_of, Woven_state, WRun, Resting, WStop, wsteps}
 use Rattle.kilim_fiber_spec.specs.Form.{is_pausable}
@@ -33,18 +37,31 @@ use Rattle.kilim_fiber_spec.specs.Rooms.{GivesWhole, HasRoom, IsFineState, bare_
 abbrev pub is_leaf : Native → Bool
 is_leaf native.Get = true
 is_leaf native.Yield = true
+is_leaf native.PutWait = true
 is_leaf n = false
 
 abbrev pub is_pausing_native : Native → Bool
 is_pausing_native native.Get = true
 is_pausing_native native.Yield = true
+is_pausing_native native.PutWait = true
 is_pausing_native native.Execute = true
 is_pausing_native n = false
 
 -- the receiver in a leaf's record
 abbrev pub leaf_receiver : Native → List Value → Value
 leaf_receiver native.Get (box ∷ args) = box
+leaf_receiver native.PutWait (box ∷ args) = box
 leaf_receiver n args = value.Null
+
+-- the heap while the leaf pauses: a tree that waits to be put isn't in it
+abbrev pub resting_heap : Program → Native → List Value → Objects → Objects
+resting_heap p native.PutWait (box ∷ value.Ref n ∷ []) heap = without heap (tree_names p heap n)
+resting_heap p leaf args heap = heap
+
+-- A leaf may pause; a put that waits may only where its tree has a shape, before the task is spent.
+abbrev pub MayPause : Setting → Native → List Value → World → Type 0
+MayPause set native.PutWait args w = (box : BoxName) × (n : ℕ) × (shape : List Token) × (args ≡ value.Box box ∷ value.Ref n ∷ []) × (shape_of set.program w.heap n ≡ Some shape) × (nat_le set.limits.steps w.done ≡ false)
+MayPause set leaf args w = Unit {0}
 
 -- what a call can do
 pub data Shape (to : ℕ) (l : List Value) (heap : Objects) (e : Effect) : Type 0 where
@@ -105,11 +122,12 @@ module _ (set : Setting) (W : Program) (marks : List (List Bool)) (form : Forms 
     pub takes : (m : MethodId) (p to q : ℕ) (i : Instr) (l s l2 s2 args : List Value) (x : Value) (b : List Frame) (w : World) (heap : Objects) (c : MethodId) → Typed (Run m p l s x b w) → fetch set.program m p ≡ Some (i, to)
         → does set.program (own_of set.program m) i to l s w.heap ≡ Calls c args q l2 s2 heap → Takes set W marks form c args (self_of set.program c args)
     pub begins : (c : MethodId) (n : ℕ) → execute_of set.program set.main ≡ Some c → Takes set W marks form c (value.Ref n ∷ []) (value.Ref n)
-    -- Where it stands at a leaf, what all frames hold has its type, in the heap as it is now, and each call again is the same call.
+    -- Where it stands at a leaf that may pause, what all frames hold has its type, in the heap as it is while the leaf pauses, and each call
+    -- again is the same call.
     pub ready : (m : MethodId) (p to : ℕ) (i : Instr) (callee : Method) (l s s2 args wl : List Value) (x : Value) (old : ℕ) (was : Value) (links : List Link) (w : World) (c : MethodId) (leaf : Native)
         → Typed (Run m p l s x (u_frames links) w) → fetch set.program m p ≡ Some (i, to) → pausable_callee set.program i ≡ Some callee
-        → does set.program (own_of set.program m) i to l s w.heap ≡ Asks c args to l s2 w.heap → native_of set.program c ≡ Some leaf → is_leaf leaf ≡ true → AllStand set W marks form links
-        → (w.kept ≡ None) × AreReady set W marks form w.heap (Leaf leaf) (leaf_receiver leaf args) (Lk m p to i callee s2 l wl x old was ∷ links)
+        → does set.program (own_of set.program m) i to l s w.heap ≡ Asks c args to l s2 w.heap → native_of set.program c ≡ Some leaf → is_leaf leaf ≡ true → AllStand set W marks form links → MayPause set leaf args w
+        → (w.kept ≡ None) × AreReady set W marks form (resting_heap set.program leaf args w.heap) (Leaf leaf) (leaf_receiver leaf args) (Lk m p to i callee s2 l wl x old was ∷ links)
     -- what stands on its stack is in its heap, and so is the receiver of a pausable method
     pub stack_there : (m : MethodId) (p : ℕ) (l s : List Value) (x : Value) (b : List Frame) (w : World) → Typed (Run m p l s x b w) → AreThere w.heap s
     pub self_there : SelvesAreThere set Typed
@@ -125,10 +143,13 @@ module _ (set : Setting) (W : Program) (marks : List (List Bool)) (form : Forms 
 
   -- ---- at rest
 
-  -- the thread of which these are the frames, at the `get`, or behind the `yield`
+  -- the thread of which these are the frames, at the `get` or the `putw`, or behind the `yield`
   abbrev pub IsThread : Native → Value → Link → List Link → Thread → World → Type 0
   IsThread native.Get box (Lk m from to i callee s l wl x old was) links t w =
       (c : MethodId) × (s0 : List Value) × (does set.program (own_of set.program m) i to l s0 w.heap ≡ Asks c (box ∷ []) to l s w.heap) × (native_of set.program c ≡ Some native.Get) × (t ≡ Run m from l s0 x (u_frames links) w)
+  IsThread native.PutWait box (Lk m from to i callee s l wl x old was) links t w =
+      (kept : Apart) × (others : List Apart) × (w.aside ≡ kept ∷ others) × (c : MethodId) × (s0 : List Value) × (does set.program (own_of set.program m) i to l s0 kept.heap ≡ Asks c (box ∷ value.Ref kept.root ∷ []) to l s kept.heap)
+      × (native_of set.program c ≡ Some native.PutWait) × (t ≡ Run m from l s0 x (u_frames links) (together kept.heap others w))
   IsThread n box (Lk m from to i callee s l wl x old was) links t w = t ≡ Run m to l s x (u_frames links) w
 
   abbrev pub StandsFor : Thread → Woven_state → Type 0
@@ -138,7 +159,7 @@ module _ (set : Setting) (W : Program) (marks : List (List Bool)) (form : Forms 
   StandsFor t (WRun m p l s b f w ps) = Unit {0}
   StandsFor t (WStop over) = Unit {0}
 
-  -- a `get` rests before it counts, a `yield` behind
+  -- a `get` and a `putw` rest before they count, a `yield` behind
   abbrev pub Now : Thread → Woven_state → Type 0
   Now t z = StandsFor t z ⊎ StandsFor (step set t) z
 

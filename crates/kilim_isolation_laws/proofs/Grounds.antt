@@ -20,8 +20,8 @@ use Rattle.kilim_run_state.specs.declared.value.Object.{Object as HeapObject}
 use Rattle.kilim_run_machine.specs.Effect.{is_wide}
 use Rattle.kilim_program.specs.Members.{named_type}
 use Rattle.kilim_run_state.specs.Machine.{Objects}
-use Rattle.kilim_type_spec.specs.Step.{is_long, peek}
-use Rattle.kilim_type_spec.specs.Typed.{IsWellTyped, has_code}
+use Rattle.kilim_type_spec.specs.Step.{class_vtype, is_long, peek}
+use Rattle.kilim_type_spec.specs.Typed.{IsWellTyped, covers, has_code}
 use Rattle.kilim_type_laws.specs.Laws.{typing_at}
 use Rattle.kilim_type_laws.proofs.ByPlace.{typed_by_place}
 use Rattle.kilim_isolation_paths.specs.Paths.{Has, Reaches}
@@ -29,17 +29,24 @@ use Rattle.kilim_isolation_graph.specs.declared.graph.Graph.{Graph}
 use Rattle.kilim_isolation.specs.Faults.{IsAccepted}
 use Rattle.kilim_isolation.specs.Laws.{GoesOn}
 use Rattle.kilim_isolation.specs.Walks.{entry_graph, exits_by, machine_of}
-use Rattle.kilim_isolation_laws.proofs.reached_objects.graphs.Behind.{stands_behind_it}
-use Rattle.kilim_isolation_laws.proofs.reached_objects.live.NoHandlers.{no_handler}
+use Rattle.kilim_type_sound.proofs.Behind.{stands_behind_it}
+use Rattle.kilim_type_sound.proofs.Caught.{place_entry}
+use Rattle.kilim_type_sound.specs.Facts.{HasTable}
+use Rattle.kilim_run_machine.specs.Raising.{is_throwable}
+use Rattle.kilim_isolation_rules.specs.Marks.{is_tree}
+use Rattle.kilim_isolation_rules.specs.Rules.{raised_deed}
+use Rattle.kilim_program.specs.Kinds.{is_tree_kind}
+use Rattle.kilim_program.specs.declared.class.Handler.{Handler}
+use Rattle.kilim_program.specs.declared.names.ClassId.{ClassId}
 use Rattle.kilim_isolation_laws.proofs.reached_objects.walk.Methods.{every_method_goes}
-use Rattle.kilim_isolation_laws.proofs.reached_objects.walk.Walks.{walks_by_types}
+use Rattle.kilim_isolation_laws.proofs.reached_objects.walk.Walks.{handled_by_types, walks_by_types}
 use Rattle.kilim_type_sound.specs.Fits.{Classes, HeapFits, has_type, have_types, is_made, is_of}
 use Rattle.kilim_type_sound.specs.Fits as fits
 use Rattle.kilim_type_sound.proofs.Bodies.{starts}
 use Rattle.kilim_type_laws.proofs.members.FromKeeps.{all_at}
 use Rattle.kilim_isolation_laws.specs.graph_rows.Facts.{IsOfType, IsVerified, IsWhole, class_in, class_of}
 use Rattle.kilim_isolation_laws.proofs.sorts.Keeping.{program_keeps}
-use Rattle.kilim_isolation_laws.specs.reached_objects.graphs.Threads.{IsSound, MethodKeeps, Passes}
+use Rattle.kilim_isolation_laws.specs.reached_objects.graphs.Threads.{Handled, IsSound, MethodKeeps, Passes}
 use Rattle.kilim_isolation_laws.proofs.reached_objects.graphs.Typing.{types_flow}
 use Rattle.kilim_isolation_laws.specs.reached_objects.Laws.{typed}
 use Rattle.kilim_isolation_laws.specs.Laws.{listed_at}
@@ -56,10 +63,15 @@ module _ (p : Program) (keeps : Keeps p) (well : IsWellTyped p) (accepted : IsAc
     begins = (goes.first, goes.begins);
     passes = λ first e. subst (λ (f : Graph). (at : ℕ) (g : Graph) → Reaches (machine_of p m (listed_at p id) f) at g → (i : Instr) (next : ℕ) → fetched m.code m.code_length at ≡ Some (i, next) → (to : Option ℕ) → Has (exits_by i next) to →
         Passes p m (typing_at p id) (listed_at p id) f at g i to) (first_same (entry_graph p m) goes.first first goes.begins e) (λ at g r i next f to h. let w = walks_by_types (typed p) (record { typed = well; frames = refl }) keeps id m is coded goes at next i g to r f h in record { passed = w.moved; arrives = w.comes });
-    handled = λ first e at g r i next here h has covering. absurd (no_handler p keeps id m is h has);
+    handled = λ first e. subst (λ (f : Graph). (at : ℕ) (g : Graph) → Reaches (machine_of p m (listed_at p id) f) at g → (i : Instr) (next : ℕ) → fetched m.code m.code_length at ≡ Some (i, next) → (hd : Handler) → Has m.handlers hd → covers hd at ≡ true →
+        Handled p m (typing_at p id) (listed_at p id) f (typing_at p id at) (raised_deed p g (typing_at p id at) i).graph hd) (first_same (entry_graph p m) goes.first first goes.begins e)
+        (λ at g r i next f hd has covering. handled_by_types (typed p) (record { typed = well; frames = refl }) keeps (private (record { id = id; method = m; there = is; entry = hd; among = place_entry m.handlers has.0 hd has.1 })) id m is coded goes at next i g r f hd has covering);
     behind = stands_behind_it p keeps id m is;
   }
     where
+      private : HasTable p → (c : ClassId) → is_throwable p c ≡ true → is_tree p (class_vtype c) ≡ false
+      private table c throwable = ap is_tree_kind ((program_keeps p keeps).thrown table c throwable)
+
       goes : GoesOn p m (listed_at p id)
       goes = every_method_goes (typed p) keeps accepted id m is coded
 

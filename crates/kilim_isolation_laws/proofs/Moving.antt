@@ -1,9 +1,10 @@
 -- A thread that stands goes on standing: its moves, and what others decide.
 use Rattle.std.proofs.Common.{◌≡◌, inl, inr, ℕ, ◌+◌, ◌≤◌, ℤ, Bool, true, false, true≢false, cond, List, [], ◌∷◌, Option, Some, None, refl, sym, ap, subst, ◌∙◌, arith}
-use Rattle.std.specs.Prelude.{◌&&◌, zero, suc, pos, negsuc, nat_le, nat_lt}
-use Rattle.std.specs.FinMap.{get}
+use Rattle.std.specs.Prelude.{◌&&◌, is_some, zero, suc, pos, negsuc, nat_le, nat_lt}
+use Rattle.std.specs.FinMap.{get, insert}
 use Rattle.std.proofs.lemmas.Bool.{and_parts}
 use Rattle.kilim_program.specs.declared.class.Method.{Method}
+use Rattle.kilim_program.specs.declared.instr.Instr.{Instr}
 use Rattle.kilim_program.specs.declared.names.BoxName.{BoxName}
 use Rattle.kilim_program.specs.declared.names.ClassId.{ClassId}
 use Rattle.kilim_program.specs.declared.names.MethodId.{MethodId}
@@ -15,9 +16,11 @@ use Rattle.kilim_program.specs.declared.value.Value.{Value}
 use Rattle.kilim_program.specs.declared.value.Value.TheVariants.{Int, Null, Ref, Box}
 use Rattle.kilim_program.specs.declared.verified.VType.{VType}
 use Rattle.kilim_program.specs.BuiltIn.{class_id, class_type, int_type}
+use Rattle.kilim_program.specs.Lengths.{fetched}
 use Rattle.kilim_program.specs.Kinds.{class_kind, is_tree_kind, kind_of}
 use Rattle.kilim_program.specs.Names.{method_at}
 use Rattle.kilim_program.specs.Program.{Program}
+use Rattle.kilim_run_state.specs.declared.cause.EndCause.{EndCause}
 use Rattle.kilim_run_state.specs.declared.cause.EndCause.TheVariants as cause
 use Rattle.kilim_run_state.specs.declared.value.Object.{Object}
 use Rattle.kilim_run_state.specs.declared.value.Token.{Token}
@@ -26,14 +29,18 @@ use Rattle.kilim_program.specs.Members.{execute_of}
 use Rattle.kilim_run_machine.specs.Moves.{Move, moves, push_value}
 use Rattle.kilim_run_machine.specs.Moves as move
 use Rattle.kilim_run_machine.specs.Natives.{Native, native_of}
+use Rattle.kilim_run_machine.specs.Raising.{index_at, is_throwable, other_index, raised_class, thrown, unwound}
 use Rattle.kilim_run_machine.specs.Natives as native
+use Rattle.kilim_run_state.specs.Objects.{new_object}
 use Rattle.kilim_run_state.specs.Shapes.{shape_of}
 use Rattle.kilim_run_state.specs.Trees.{OfMessage, built, tree_names, with_objects, without}
 use Rattle.kilim_run_journal.specs.declared.entry.Act.{Act}
 use Rattle.kilim_run_journal.specs.declared.entry.Act.TheVariants.{Put, Take, Empty, Start, Print, End, Bound}
-use Rattle.kilim_run_model.proofs.Raised.{raised_over, raises_over, throws_over}
+use Rattle.kilim_type_sound.proofs.Caught.{index_is, other_is, thrown_table, unwound_table}
+use Rattle.kilim_type_sound.proofs.Raised.{of_has, raises_has, throws_has}
+use Rattle.kilim_type_sound.specs.Facts.{HasTable}
 use Rattle.kilim_run_model.specs.State.{Setting, Thread, Alive, Ended, begun_on, is_fit}
-use Rattle.kilim_run_model.specs.Lone.{Lone, Next, Goes, Puts, PutWaits, Bounds, Gets, Probes, Starts, Prints, Ends, Stands, arg_at, arg_next, asks_next, begins_next, box_limit, ended, finish_next, frames_next, message_next, native_next, next_by, next_move, on_heap, opens_next, over, print_next, printed, pushed, put_next, put_wait_next, bound_next, start_next, thread_next, wait_next, went}
+use Rattle.kilim_run_model.specs.Lone.{Lone, Next, Goes, Puts, PutWaits, Bounds, Gets, Probes, Starts, Prints, Ends, Stands, arg_at, arg_next, asks_next, begins_next, box_limit, ended, finish_next, frames_next, message_next, native_next, next_by, next_move, on_heap, opens_next, over, print_next, printed, pushed, put_next, raised, put_wait_next, bound_next, start_next, thread_next, wait_next, went}
 use Rattle.kilim_run_model.specs.Course.{Done, done_by, fills_deed, probes_deed, puts_deed, received, starts_deed, takes_deed, tree_came, tree_left}
 use Rattle.kilim_run_model.specs.declared.deed.Deed.{Deed}
 use Rattle.kilim_type_spec.specs.Step.{vtype}
@@ -42,15 +49,18 @@ use Rattle.kilim_type_laws.specs.Laws.{typing_at}
 use Rattle.kilim_isolation_laws.specs.forest.Heap.{IsForest}
 use Rattle.kilim_isolation_graph.specs.declared.entry.Parameter.{Parameter}
 use Rattle.kilim_isolation_graph.specs.Entry.{parameters_of, quality}
-use Rattle.kilim_type_sound.specs.Fits.{Classes, Fits, FramesFit, HeapFits, Nothing, Wanted, have_types, is_of}
+use Rattle.kilim_type_sound.specs.Fits.{AreThere, Classes, Fits, FramesFit, HeapFits, Nothing, Wanted, have_types, is_of}
 use Rattle.kilim_type_sound.specs.Sound.{AsksFit, MoveFits, native_types}
 use Rattle.kilim_type_sound.proofs.Grounds.{facts_hold}
-use Rattle.kilim_type_sound.proofs.Theorem.{moves_fit}
+use Rattle.kilim_type_sound.proofs.Theorem.{moves_fit, thrown_is_there}
 use Rattle.kilim_isolation_laws.specs.typed_threads.fine.Typed.{FitsAs, IsVerified, StackIsThere, TopIsThere, frames_of}
 use Rattle.kilim_isolation_laws.proofs.typed_threads.fine.Natives.{gives, native_gives}
-use Rattle.kilim_isolation_laws.specs.graph_rows.Holds.{IsOf, Tree, Trees, object_sort, trees, type_sort}
-use Rattle.kilim_isolation_laws.specs.reached_objects.graphs.Threads.{AskFits, EndFits, Gives, IsSound, Listed, NoneOwned, ThreadFits, TopIsCoded, TopIsVerified}
+use Rattle.kilim_isolation_laws.specs.graph_rows.Holds.{IsOf, Own, Tree, Trees, object_sort, sort_by, trees, type_sort}
+use Rattle.kilim_isolation_laws.specs.reached_objects.graphs.Threads.{AskFits, CaughtFit, EndFits, Gives, IsSound, IsThrown, Listed, NoneOwned, ThreadFits, TopIsCoded, TopIsVerified}
 use Rattle.kilim_isolation_laws.specs.reached_objects.graphs.Threads as graphs
+use Rattle.kilim_isolation_laws.proofs.graph_rows.Heaps.{put_there}
+use Rattle.kilim_isolation_laws.proofs.graph_rows.Making.{new_object_fits, zero_holds}
+use Rattle.kilim_isolation_laws.proofs.reached_objects.graphs.Raising.{new_objects_keep, throws_keep}
 use Rattle.kilim_isolation_laws.proofs.reached_objects.graphs.Thread.{moves_keep}
 use Rattle.kilim_isolation_laws.proofs.heaps.Heaps.{taken_trees_come}
 use Rattle.kilim_isolation_laws.proofs.names.Given.{given_trees_leave}
@@ -119,7 +129,32 @@ module _ (set : Setting) (wanted : Wanted) (listed : Listed) (sound : IsSound se
   NextStands (Ends cause after) = Stood after
   NextStands Stands = Unit {0}
 
+  -- ---- what is thrown
+
+  -- a new object of a class that can be thrown
+  object_thrown : HasTable p → (h : Objects) (q : ℕ) (c : ClassId) → is_throwable p c ≡ true → IsThrown p (insert h q (new_object p c)) c q
+  object_thrown table h q c throwable =
+      let own : object_sort p (class_type c.0) ≡ Own = ap (sort_by p (class_type c.0)) (sound.keeps.thrown table c throwable) in
+      record { is = (new_object p c, put_there h q (new_object p c), own); own = own; throwable = throwable }
+
+  -- the instruction of the top frame
+  thrown_stands : (of : Classes) (kept : Option ℕ) (top : Activation) (below : List Activation) (h k : Objects) → Fits p (typing_at p) wanted of (top ∷ below) h → ThreadFits p (typing_at p) listed kept k top below → (c : ClassId) (q : ℕ) → IsThrown p k c q →
+      CaughtFit p (typing_at p) listed kept k (thrown p c (Ref q) top below)
+  thrown_stands of kept top below h k f stood c q is = by (fetched f.frames.0.method.code f.frames.0.method.code_length top.place) refl f.frames.0.stands
+    where
+      by : (o : Option (Instr × ℕ)) → fetched f.frames.0.method.code f.frames.0.method.code_length top.place ≡ o → is_some o ≡ true → CaughtFit p (typing_at p) listed kept k (thrown p c (Ref q) top below)
+      by None e s = absurd (cc)
+      by (Some found) e s = throws_keep p (typing_at p) listed kept top below k sound stood f.frames.0.method found.0 found.1 f.frames.0.there e c q is
+
   module _ (t : ℕ) (l : Lone) (of : Classes) (fresh : (q : ℕ) → l.next ≤ q → of q ≡ None) (done boxes : ℕ) where
+    -- a name without a class names no object
+    unnamed_yet : (h : Objects) (x : ℕ) → HeapFits p of h → of x ≡ None → get h x ≡ None
+    unnamed_yet h x heap new = by (get h x) refl
+      where
+        by : (o : Option Object) → get h x ≡ o → o ≡ None
+        by None at = refl
+        by (Some object) at = absurd (let e = sym (heap.classes x object at) ∙ new in cc)
+
     -- ---- a built-in method that is handed out
 
     module _ (id : MethodId) (args : List Value) (frames : List Activation) (h : Objects) (asks : AsksFit p (typing_at p) wanted of id args frames h) (fits : AskFits p (typing_at p) listed l.kept id args frames h) where
@@ -151,11 +186,15 @@ module _ (set : Setting) (wanted : Wanted) (listed : Listed) (sound : IsSound se
       with_null k known some = fits.answered message Null (result k known ∙ some) (subst (λ (s : Rattle.kilim_isolation_laws.specs.graph_rows.Holds.Sort). Rattle.kilim_isolation_laws.specs.graph_rows.Holds.Fits p h s Null) (sym message_sort) (refl, λ o e. absurd (cc))) (λ tree. refl)
 
       no_object : (x : ℕ) → l.next ≤ x → get h x ≡ None
-      no_object x le = by (get h x) refl
-        where
-          by : (o : Option Object) → get h x ≡ o → o ≡ None
-          by None at = refl
-          by (Some object) at = absurd (let e = sym (asks.heap.classes x object at) ∙ fresh x le in cc)
+      no_object x le = unnamed_yet h x asks.heap (fresh x le)
+
+      -- what is raised for a cause, behind the call
+      asked_raises : (why : EndCause) → NextStands (raised p behind why)
+      asked_raises why = of_has NextStands p behind why tt (done + 1) boxes (λ c. unwound p c (Ref l.next) frames) (raised_class p other_index why) (λ c e f fs left more on.
+          let table = unwound_table p c (Ref l.next) frames f fs left in
+          let known = (facts_hold p is.keeps).raised table other_index other_is why c e in
+          subst (λ (left : List Activation). CaughtFit p (typing_at p) listed l.kept (insert h l.next (new_object p c)) left) left
+          (fits.raises c l.next (no_object l.next (omega arith)) (new_object_fits p sound.keeps.may c h l.next) (object_thrown table h l.next c known.0)))
 
       receives : (k : Native) → native_of p id ≡ Some k → gives number k ≡ Some message → Receives behind
       receives k known some objects shape e =
@@ -207,17 +246,17 @@ module _ (set : Setting) (wanted : Wanted) (listed : Listed) (sound : IsSound se
       put_wait_stands box root known own (Some shape) e = message_leaves native.PutWait known refl (wait_is p is.keeps is.form id fits.callee fits.is known) box root own shape e
 
       wait_stands : (box : BoxName) (v : Value) → native_of p id ≡ Some native.PutWait → args ≡ Box box ∷ v ∷ [] → NextStands (wait_next p behind box v)
-      wait_stands box Null known own = subst NextStands (sym (raised_over p is.keeps.handlers behind cause.Null)) tt
+      wait_stands box Null known own = asked_raises cause.Null
       wait_stands box (Ref root) known own = put_wait_stands box root known own (shape_of p h root) refl
       wait_stands box _ known own = tt
 
       bound_stands : (box : BoxName) (i : ℤ) → Stood behind → NextStands (bound_next p behind box i)
       bound_stands box (pos (suc i)) e = e
-      bound_stands box (pos zero) e = subst NextStands (sym (raised_over p is.keeps.handlers behind cause.Size)) tt
-      bound_stands box (negsuc i) e = subst NextStands (sym (raised_over p is.keeps.handlers behind cause.Size)) tt
+      bound_stands box (pos zero) e = asked_raises cause.Size
+      bound_stands box (negsuc i) e = asked_raises cause.Size
 
       message_stands : (box : BoxName) (v : Value) → native_of p id ≡ Some native.Put → args ≡ Box box ∷ v ∷ [] → NextStands (message_next p behind box v)
-      message_stands box Null known own = subst NextStands (sym (raised_over p is.keeps.handlers behind cause.Null)) tt
+      message_stands box Null known own = asked_raises cause.Null
       message_stands box (Ref root) known own = put_stands box root known own (shape_of p h root) refl
       message_stands box _ known own = tt
 
@@ -248,7 +287,7 @@ module _ (set : Setting) (wanted : Wanted) (listed : Listed) (sound : IsSound se
       print_stands (Some token) e = e
 
       arg_stands : (o : Option ℤ) → ((x : ℤ) → Stood (pushed (Int x) behind)) → NextStands (arg_next p behind o)
-      arg_stands None e = subst NextStands (sym (raised_over p is.keeps.handlers behind cause.Index)) tt
+      arg_stands None e = asked_raises cause.Index
       arg_stands (Some x) e = λ more on. e x
 
       native_stands : (k : Native) (own : List Value) → native_of p id ≡ Some k → args ≡ own → NextStands (native_next set behind k own)
@@ -289,25 +328,38 @@ module _ (set : Setting) (wanted : Wanted) (listed : Listed) (sound : IsSound se
       finish_stands h heap None e fits = tt
       finish_stands h heap (Some q) e fits = begins_stand h q e fits heap (begun_on p (execute_of p set.main) q) refl
 
-      move_stands : (top : Activation) (below : List Activation) (m : Move) → MoveFits p (typing_at p) wanted of m → graphs.MoveFits p (typing_at p) listed l.kept m → NextStands (next_by set t l done boxes top below m)
-      move_stands top below (move.Runs change frames h) typed fits = λ more on. fits (top_coded more frames on.fits.frames)
-      move_stands top below (move.Makes object frames h) typed fits = λ more on. fits l.next (by (get h l.next) refl)
+      move_stands : (top : Activation) (below : List Activation) → Fits p (typing_at p) wanted of (top ∷ below) l.heap → AreThere l.heap top.stack → ThreadFits p (typing_at p) listed l.kept l.heap top below → (m : Move) → moves p top below l.heap ≡ m →
+          MoveFits p (typing_at p) wanted of m → graphs.MoveFits p (typing_at p) listed l.kept m → NextStands (next_by set t l done boxes top below m)
+      move_stands top below f there stood (move.Runs change frames h) same typed fits = λ more on. fits (top_coded more frames on.fits.frames)
+      move_stands top below f there stood (move.Makes object frames h) same typed fits = λ more on. fits l.next (by (get h l.next) refl)
         where
           by : (o : Option Object) → get h l.next ≡ o → o ≡ None
           by None at = refl
           by (Some other) at = absurd (let e = sym (typed.2.classes l.next other at) ∙ fresh l.next (omega arith) in cc)
-      move_stands top below (move.Opens frames h) typed fits = opens_stand frames h fits
-      move_stands top below (move.Asks id args frames h) typed fits = asks_stand id args frames h typed fits (native_of p id) refl
-      move_stands top below (move.Returns h) typed fits = finish_stands h typed l.kept refl fits
-      move_stands top below (move.Raises c) typed fits = subst NextStands (sym (raises_over p is.keeps.handlers l c done boxes top below)) tt
-      move_stands top below (move.Throws object class c) typed fits = subst NextStands (sym (throws_over p is.keeps.handlers l c (done + 1) boxes object class top below)) tt
-      move_stands top below (move.Ends c) typed fits = tt
-      move_stands top below move.Stuck typed fits = tt
+      move_stands top below f there stood (move.Opens frames h) same typed fits = opens_stand frames h fits
+      move_stands top below f there stood (move.Asks id args frames h) same typed fits = asks_stand id args frames h typed fits (native_of p id) refl
+      move_stands top below f there stood (move.Returns h) same typed fits = finish_stands h typed l.kept refl fits
+      move_stands top below f there stood (move.Raises why) same typed fits = raises_has NextStands p l why tt done boxes top below (λ c e g gs left more on.
+          let table = thrown_table p c (Ref l.next) top below g gs left in
+          let known = (facts_hold p is.keeps).raised table (index_at p top) (index_is p top) why c e in
+          let free = unnamed_yet l.heap l.next f.heap (fresh l.next (omega arith)) in
+          subst (λ (left : List Activation). CaughtFit p (typing_at p) listed l.kept (insert l.heap l.next (new_object p c)) left) left
+          (thrown_stands of l.kept top below l.heap (insert l.heap l.next (new_object p c)) f
+          (new_objects_keep p (typing_at p) listed l.kept top below l.heap l.next (new_object p c) free (zero_holds p c) (new_object_fits p sound.keeps.may c l.heap l.next) stood) c l.next (object_thrown table l.heap l.next c known.0)))
+      move_stands top below f there stood (move.Throws object class why) same typed fits = throws_has NextStands p l why tt (done + 1) boxes (thrown p class (Ref object) top below) (λ g gs left more on.
+          let table = thrown_table p class (Ref object) top below g gs left in
+          let is_there = thrown_is_there p (typing_at p) wanted of is.keeps is.verified top below l.heap f there object class why same in
+          let own : object_sort p (class_type class.0) ≡ Own = ap (sort_by p (class_type class.0)) (sound.keeps.thrown table class is_there.1) in
+          let class_is = some_same (of object) is_there.2.0.class (class_type class.0) (f.heap.classes object is_there.2.0 is_there.2.1) is_there.0 in
+          subst (λ (left : List Activation). CaughtFit p (typing_at p) listed l.kept l.heap left) left
+          (thrown_stands of l.kept top below l.heap l.heap f stood class object (record { is = (is_there.2.0, is_there.2.1, ap (object_sort p) class_is ∙ own); own = own; throwable = is_there.1 })))
+      move_stands top below f there stood (move.Ends c) same typed fits = tt
+      move_stands top below f there stood move.Stuck same typed fits = tt
 
       frames_stand : (frames : List Activation) → Fits p (typing_at p) wanted of frames l.heap → TopIsThere l.heap frames → StandOn l.kept l.heap frames → NextStands (frames_next set t l frames done boxes)
       frames_stand [] f there fits = tt
       frames_stand (top ∷ below) f there fits =
-          move_stands top below (moves p top below l.heap) (moves_fit p (typing_at p) wanted of (facts_hold p is.keeps) is.verified top below l.heap f there)
+          move_stands top below f there fits (moves p top below l.heap) refl (moves_fit p (typing_at p) wanted of (facts_hold p is.keeps) is.verified top below l.heap f there)
           (moves_keep p (typing_at p) listed l.kept top below l.heap sound (top_verified of top below l.heap f) fits)
 
   abbrev BeginsKept : Classes → Lone → Type 0

@@ -17,7 +17,8 @@ use Rattle.kilim_program.specs.declared.ty.Qualifier.{Qualifier}
 use Rattle.kilim_program.specs.declared.ty.Qualifier.TheVariants.{Cuttable, Free, Safe}
 use Rattle.kilim_program.specs.declared.ty.Ty.{Ty}
 use Rattle.kilim_program.specs.Program.{Program}
-use Rattle.kilim_program.specs.BuiltIn.{built_in_methods_in, class_id, class_type}
+use Rattle.kilim_program.proofs.BuiltIns.{constructors_too}
+use Rattle.kilim_program.specs.BuiltIn.{built_in_methods_in, class_id, class_type, exception_numbers}
 use Rattle.kilim_program.specs.Fits.{fits_type, is_named}
 use Rattle.kilim_program.specs.Keeps.{Keeps}
 use Rattle.kilim_program.specs.Kinds.{class_kind, is_message, is_value_class}
@@ -51,24 +52,24 @@ no : {A : Type 0} → false ≡ true → A
 no e = absurd (cc)
 
 puts_so : (n : ℕ) → AllByRecursion (NamedSo (codes "put") (Puts n)) (built_in_methods_in Plain n)
-puts_so n = (no, (no, (no, (no, (no, (no, (no, (no, ((λ e. (refl, refl, refl, refl, refl)), (no, (no, (no, (no, (no, (no, (no, (no, (no, tt))))))))))))))))))
+puts_so n = (no, (no, (no, (no, (no, (no, (no, (no, ((λ e. (refl, refl, refl, refl, refl)), (no, (no, (no, (no, (no, (no, (no, (no, (no, constructors_too (NamedSo (codes "put") (Puts n)) n exception_numbers [] (λ c. no) tt))))))))))))))))))
 
 -- no built-in method is called so yet
 waits_so : (n : ℕ) → AllByRecursion (NamedSo (codes "putw") (Puts n)) (built_in_methods_in Plain n)
-waits_so n = (no, (no, (no, (no, (no, (no, (no, (no, (no, (no, (no, (no, (no, (no, (no, (no, (no, (no, tt))))))))))))))))))
+waits_so n = (no, (no, (no, (no, (no, (no, (no, (no, (no, (no, (no, (no, (no, (no, (no, (no, (no, (no, constructors_too (NamedSo (codes "putw") (Puts n)) n exception_numbers [] (λ c. no) tt))))))))))))))))))
 
 no_waits : (n : ℕ) → AllByRecursion (NamedSo (codes "putw") (λ m. ⊥)) (built_in_methods_in Plain n)
-no_waits n = (no, (no, (no, (no, (no, (no, (no, (no, (no, (no, (no, (no, (no, (no, (no, (no, (no, (no, tt))))))))))))))))))
+no_waits n = (no, (no, (no, (no, (no, (no, (no, (no, (no, (no, (no, (no, (no, (no, (no, (no, (no, (no, constructors_too (NamedSo (codes "putw") (λ m. ⊥)) n exception_numbers [] (λ c. no) tt))))))))))))))))))
 
 -- a constructor has no parameters
 no_arguments : (n : ℕ) → AllByRecursion (NamedSo (codes "<init>") (λ m. is_empty m.params ≡ true)) (built_in_methods_in Plain n)
-no_arguments n = ((λ e. refl), (no, (no, (no, ((λ e. refl), (no, (no, ((λ e. refl), (no, (no, (no, (no, (no, (no, (no, (no, (no, (no, tt))))))))))))))))))
+no_arguments n = ((λ e. refl), (no, (no, (no, ((λ e. refl), (no, (no, ((λ e. refl), (no, (no, (no, (no, (no, (no, (no, (no, (no, (no, constructors_too (NamedSo (codes "<init>") (λ m. is_empty m.params ≡ true)) n exception_numbers [] (λ c e. refl) tt))))))))))))))))))
 
 starts_so : (n : ℕ) → AllByRecursion (NamedSo (codes "start") (Begins n Free)) (built_in_methods_in Plain n)
-starts_so n = (no, (no, (no, (no, (no, ((λ e. (refl, refl, refl, refl, refl)), (no, (no, (no, (no, (no, (no, (no, (no, (no, (no, (no, (no, tt))))))))))))))))))
+starts_so n = (no, (no, (no, (no, (no, ((λ e. (refl, refl, refl, refl, refl)), (no, (no, (no, (no, (no, (no, (no, (no, (no, (no, (no, (no, constructors_too (NamedSo (codes "start") (Begins n Free)) n exception_numbers [] (λ c. no) tt))))))))))))))))))
 
 executes_so : (n : ℕ) → AllByRecursion (NamedSo (codes "execute") (λ m. Begins n Cuttable m × (is_constructor m ≡ false) × (m.is_private ≡ false))) (built_in_methods_in Plain n)
-executes_so n = (no, (no, (no, (no, (no, (no, ((λ e. ((refl, refl, refl, refl, refl), refl, refl)), (no, (no, (no, (no, (no, (no, (no, (no, (no, (no, (no, tt))))))))))))))))))
+executes_so n = (no, (no, (no, (no, (no, (no, ((λ e. ((refl, refl, refl, refl, refl), refl, refl)), (no, (no, (no, (no, (no, (no, (no, (no, (no, (no, (no, constructors_too (NamedSo (codes "execute") (λ m. Begins n Cuttable m × (is_constructor m ≡ false) × (m.is_private ≡ false))) n exception_numbers [] (λ c. no) tt))))))))))))))))))
 
 -- ---- by what they do
 

@@ -19,7 +19,7 @@ abbrev pub shifts_and_bit_operations : List (ℕ × Instr)
 shifts_and_bit_operations = (120, instr.Ishl) ∷ (121, instr.Lshl) ∷ (122, instr.Ishr) ∷ (123, instr.Lshr) ∷ (124, instr.Iushr) ∷ (125, instr.Lushr) ∷ (126, instr.Iand) ∷ (127, instr.Land) ∷ (128, instr.Ior) ∷ (129, instr.Lor) ∷ (130, instr.Ixor) ∷ (131, instr.Lxor) ∷ []
 
 abbrev pub conversions_and_returns : List (ℕ × Instr)
-conversions_and_returns = (133, instr.I2l) ∷ (136, instr.L2i) ∷ (145, instr.I2b) ∷ (146, instr.I2c) ∷ (147, instr.I2s) ∷ (148, instr.Lcmp) ∷ (172, instr.Ireturn) ∷ (173, instr.Lreturn) ∷ (176, instr.Areturn) ∷ (177, instr.Return) ∷ (190, instr.Arraylength) ∷ []
+conversions_and_returns = (133, instr.I2l) ∷ (136, instr.L2i) ∷ (145, instr.I2b) ∷ (146, instr.I2c) ∷ (147, instr.I2s) ∷ (148, instr.Lcmp) ∷ (172, instr.Ireturn) ∷ (173, instr.Lreturn) ∷ (176, instr.Areturn) ∷ (177, instr.Return) ∷ (190, instr.Arraylength) ∷ (191, instr.Athrow) ∷ []
 
 -- ---- a group, and those behind it
 

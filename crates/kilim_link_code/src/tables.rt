@@ -6,7 +6,7 @@ ghost use Rattle.kilim_link_code.specs.Groups.{from_array_loads, from_local_stor
 
 use kilim_program::{Base, FieldId, Instr, MethodId, Ty, Value};
 
-// Conversions, a comparison, returns and the length of an array.
+// Conversions, a comparison, returns, the length of an array and what throws.
 fn conversions_and_returns(number: u8) -> Option<Instr>
     ensures { result ≡ row conversions_and_returns number }
 {
@@ -22,6 +22,7 @@ fn conversions_and_returns(number: u8) -> Option<Instr>
         176 => Some(Instr::Areturn),
         177 => Some(Instr::Return),
         190 => Some(Instr::Arraylength),
+        191 => Some(Instr::Athrow),
         _ => None,
     }
 }

@@ -1,6 +1,7 @@
 //! Problems of a class itself, and of the classes that it names.
 
 ghost use Rattle.std.specs.Prelude.{◌≡◌, ◌&&◌, IfOk, filter, option_copied};
+ghost use Rattle.kilim_program.specs.BuiltIn.{is_exception};
 ghost use Rattle.kilim_link_spec.specs.Mentions.{class_names};
 ghost use Rattle.kilim_link_spec.specs.World.{class_of};
 ghost use Rattle.kilim_link_spec.specs.Faults.{class_missing, circular, both_kinds, super_kind, is_missing, is_open, is_open_class, may_extend};
@@ -95,13 +96,31 @@ pub fn both_kinds(
     }
 }
 
+// Whether a name is that of a class of exceptions that is built in.
+fn is_exception(name: &Units) -> bool
+    ensures { result ≡ is_exception name.now }
+{
+    name.is_text(b"java/lang/Throwable")
+        || name.is_text(b"java/lang/Exception")
+        || name.is_text(b"java/lang/RuntimeException")
+        || name.is_text(b"java/lang/ArithmeticException")
+        || name.is_text(b"java/lang/NullPointerException")
+        || name.is_text(b"java/lang/NegativeArraySizeException")
+        || name.is_text(b"java/lang/ClassCastException")
+        || name.is_text(b"java/lang/ArrayStoreException")
+        || name.is_text(b"java/lang/IndexOutOfBoundsException")
+        || name.is_text(b"java/lang/ArrayIndexOutOfBoundsException")
+        || name.is_text(b"java/lang/StringIndexOutOfBoundsException")
+}
+
 // Whether a class may be extended.
 fn is_open(view: &ClassView) -> bool
     ensures { result ≡ is_open view.now }
 {
     !view.is_final
         && (!view.is_built_in
-            || (view.name.is_text(b"java/lang/Object") || view.name.is_text(b"kilim/Task")))
+            || (view.name.is_text(b"java/lang/Object")
+                || (view.name.is_text(b"kilim/Task") || is_exception(&view.name))))
 }
 
 fn is_open_class(view: Option<&ClassView>) -> bool

@@ -26,6 +26,7 @@ use Rattle.kilim_link_laws.proofs.Made.{each_length, file_makes, length-numbered
 use Rattle.kilim_link_laws.proofs.Named.{outlined_at, outlined_one}
 use Rattle.kilim_link_laws.proofs.Outline as outline
 use Rattle.kilim_link_laws.proofs.Outline.{bare_built_in, placed}
+use Rattle.kilim_link_laws.proofs.Shifted.{shift_class}
 use Rattle.kilim_link_laws.proofs.Unique.{built_views, class_of_is, views}
 use Rattle.kilim_link_spec.specs.Types.{itself}
 
@@ -94,7 +95,7 @@ module _ (files : List ClassFile) (form : Form) (classes : List Class) (fields :
   of_built_in : (n k : ℕ) (class : Class) → n ≡ length files + k → slice_get (built_in_classes_in form 0 0) k ≡ Some class → outlined_one vs mark n (view_of_built_in (built_ins form) class) ≡ placed (length files) class
   of_built_in n k class is there =
       ap (λ (s : Option ClassId). headed class.name s class.is_abstract (mark (class_id n) (view_of_built_in (built_ins form) class))) (outline.built_super files form classes fields methods l k class there)
-      ∙ ap (λ (b : Bool). headed class.name (option_map (λ (c : ClassId). class_id (length files)) class.superclass) class.is_abstract b)
+      ∙ ap (λ (b : Bool). headed class.name (option_map (shift_class (length files)) class.superclass) class.is_abstract b)
       (ap (λ (m : ℕ). mark (class_id m) (view_of_built_in (built_ins form) class)) is ∙ outline.built_mark files form classes fields methods l k class there)
 
   at_file : (n : ℕ) → n < length files → option_map (outlined_one vs mark n) (slice_get vs n) ≡ option_map bare (slice_get p.classes n)

@@ -1,8 +1,9 @@
 -- A class that isn't abstract neither declares nor inherits an abstract method.
-use Rattle.std.proofs.Common.{◌≡◌, ℕ, zero, suc, ◌+◌, Bool, true, false, ◌&&◌, ◌||◌, not, List, [], ◌∷◌, ◌++◌, length, slice_get, Option, Some, None, option_map, filter, refl, sym, ap, ◌∙◌, arith}
+use Rattle.std.proofs.Common.{◌≡◌, ℕ, zero, suc, ◌+◌, Bool, true, false, ◌&&◌, ◌||◌, not, nat_lt, List, [], ◌∷◌, ◌++◌, map, length, slice_get, Option, Some, None, option_map, filter, refl, sym, ap, ◌∙◌, ltb-true, arith}
 use Rattle.std.specs.List.{flat_map, list_all, list_any}
-use Rattle.std.proofs.lemmas.Bool.{and_left, not-true, not_from_false, or_left, or_right}
+use Rattle.std.proofs.lemmas.Bool.{and_left, and_parts, not-true, not_from_false, or_left, or_right}
 use Rattle.std.proofs.lemmas.List.{length-append}
+use Rattle.std.proofs.lemmas.Option.{slice_get_within}
 use Rattle.kilim_lemmas.proofs.Lists.{front_none, rest_none, map_none, get_some}
 use Rattle.kilim_class_file.specs.declared.class_file.ClassFile.{ClassFile}
 use Rattle.kilim_program.specs.declared.class.Class.{Class}
@@ -14,13 +15,13 @@ use Rattle.kilim_program.specs.declared.names.ClassId.{ClassId}
 use Rattle.kilim_program.specs.declared.names.MethodId.{MethodId}
 use Rattle.kilim_program.specs.Program.{Program}
 use Rattle.kilim_program.specs.BuiltIn.{built_in_classes_in, built_in_methods_in, class_id}
-use Rattle.kilim_program.specs.Keeps.{ancestors_of, is_left_abstract, is_same_id, line_above, none_is_left_abstract, superclass_of}
+use Rattle.kilim_program.specs.Keeps.{ancestors_of, each_class_from, is_left_abstract, is_same_id, line_above, none_is_left_abstract, superclass_of}
 use Rattle.kilim_program.specs.Names.{class_at, line_of, line_up_to, method_at, methods_of}
 use Rattle.kilim_program.specs.Same.{selected}
 use Rattle.kilim_link_spec.specs.Faults.{abstract_left, is_left_here, left_above, left_inherited}
 use Rattle.kilim_link_spec.specs.Laws.{LinkedInParts, NoProblem, NoneHasAProblem, NoneOfEachKind}
 use Rattle.kilim_link_spec.specs.Linked.{program_with}
-use Rattle.kilim_link_spec.specs.World.{World, acc_abstract, declared_methods, has_flag, world_of}
+use Rattle.kilim_link_spec.specs.World.{World, acc_abstract, built_ins, declared_methods, has_flag, world_of}
 use Rattle.kilim_link_laws.specs.Facts.{NoneIsLeftAbstract}
 use Rattle.kilim_link_laws.proofs.Bared.{line_from, super_in}
 use Rattle.kilim_link_laws.proofs.Bridge.{LinkedClass}
@@ -30,9 +31,14 @@ use Rattle.kilim_link_laws.proofs.Lists.{all_at, none_by_places}
 use Rattle.kilim_link_laws.proofs.Nearer as nearer
 use Rattle.kilim_link_laws.proofs.Origins as origins
 use Rattle.kilim_link_laws.proofs.Origins.{ClassOrigin, OfBuiltIn, OfFile, built_in_of, each_by_places, length-built_in}
-use Rattle.kilim_link_laws.proofs.Outline.{begins, up_to}
+use Rattle.kilim_link_laws.proofs.Outline.{begins, by_table}
 use Rattle.kilim_link_laws.proofs.Positions as positions
-use Rattle.kilim_link_laws.proofs.Shifted.{shift_method}
+use Rattle.kilim_link_laws.proofs.Shifted.{shift_class, shift_method}
+
+-- the lines of built-in classes are of such classes
+lines_there : (form : Form) → each_class_from (λ c class. list_all (λ (d : ClassId). nat_lt d.0 (length (built_in_classes_in form 0 0))) (line_of (built_ins form) c)) 0 (built_in_classes_in form 0 0) ≡ true
+lines_there Plain = refl
+lines_there Woven = refl
 
 and_true : (b : Bool) → (b && true) ≡ false → b ≡ false
 and_true true e = e
@@ -89,7 +95,7 @@ module _ (files : List ClassFile) (form : Form) (classes : List Class) (fields :
       let both = length-append classes (built_in_classes_in form len (length methods)) in
       let count = length-built_in form len (length methods) in
       let some = b.count in
-      (length classes + suc b.more, omega (arith, both, count, some))
+      (length classes + b.more, omega (arith, both, count, some))
 
   -- ---- a class of a file
 
@@ -139,19 +145,14 @@ module _ (files : List ClassFile) (form : Form) (classes : List Class) (fields :
       let no_abstract = not-true _ (all_at (λ (x : Method). not x.is_abstract) (built_in_methods_in form 0) (none_abstract form) m.id0.0 m.of m.of_is) in
       ap (is_left_abstract p c id) m.method_is ∙ and_left m.of.is_abstract (is_same_id id (selected p c (shift_method len m.of))) no_abstract)
 
-  top_none : (c : ClassId) → list_any (left c) (methods_of p (class_id len)) ≡ false
-  top_none c =
-      let built = built_in_classes_in form len (length methods) in
-      let b = begins form in
-      let some = b.count in
+  line_none : (c : ClassId) (ds : List ClassId) → list_all (λ (d : ClassId). nat_lt d.0 (length (built_in_classes_in form 0 0))) ds ≡ true → list_any (left c) (flat_map (methods_of p) (map (shift_class len) ds)) ≡ false
+  line_none c [] there = refl
+  line_none c (d ∷ ds) there =
+      let parts = and_parts (nat_lt d.0 (length (built_in_classes_in form 0 0))) _ there in
+      let within = ltb-true d.0 (length (built_in_classes_in form 0 0)) parts.0 in
       let count = length-built_in form len (length methods) in
-      let t = get_some built 0 (omega (arith, some, count)) in
-      let number : len ≡ len + 0 = omega arith in
-      ap (λ (n : ℕ). list_any (left c) (methods_of p (class_id n))) number ∙ built_none c 0 t.0 t.1
-
-  built_line_none : (c : ClassId) (s : Option ClassId) → list_any (left c) (methods_of p c) ≡ false → list_any (left c) (flat_map (methods_of p) (up_to (c ∷ []) (option_map (λ (d : ClassId). class_id len) s))) ≡ false
-  built_line_none c None own = append_none (left c) (methods_of p c) [] own refl
-  built_line_none c (Some d) own = append_none (left c) (methods_of p c) (methods_of p (class_id len) ++ []) own (append_none (left c) (methods_of p (class_id len)) [] (top_none c) refl)
+      let class = get_some (built_in_classes_in form len (length methods)) d.0 (omega (arith, within, count)) in
+      append_none (left c) (methods_of p (shift_class len d)) (flat_map (methods_of p) (map (shift_class len) ds)) (built_none c d.0 class.0 class.1) (line_none c ds parts.1)
 
   -- ---- all classes
 
@@ -166,8 +167,10 @@ module _ (files : List ClassFile) (form : Form) (classes : List Class) (fields :
   fits_by n class is (OfFile file at made) = file_by n file class at is made (has_flag acc_abstract file.access_flags) refl
   fits_by n class is (OfBuiltIn k place there) =
       let o = built_in_of form len (length methods) k class there in
-      let none = ap (λ (ds : List ClassId). list_any (left (class_id (len + k))) (flat_map (methods_of p) ds)) (origins.built_line files form classes fields methods l k class there o)
-      ∙ built_line_none (class_id (len + k)) o.of.superclass (built_none (class_id (len + k)) k class there) in
+      let within = slice_get_within (built_in_classes_in form 0 0) k o.of o.at in
+      let none = ap (λ (ds : List ClassId). list_any (left (class_id (len + k))) (flat_map (methods_of p) ds)) (origins.built_line files form classes fields methods l k within)
+      ∙ line_none (class_id (len + k)) (line_of (built_ins form) (class_id k))
+      (by_table form (λ c class. list_all (λ (d : ClassId). nat_lt d.0 (length (built_in_classes_in form 0 0))) (line_of (built_ins form) c)) (lines_there form) k o.of o.at) in
       ap (λ (m : ℕ). fits (class_id m) class) place ∙ or_right class.is_abstract _ (not_from_false _ none)
 
   pub none_abstract_left : none_is_left_abstract p ≡ true

@@ -1,32 +1,35 @@
 -- Where a class of a linked program comes from: a file, or the built-in classes.
-use Rattle.std.proofs.Common.{◌≡◌, ℕ, suc, ◌+◌, Bool, true, false, ◌||◌, List, [], ◌∷◌, length, slice_get, Option, Some, None, option_map, bytes_eq, codes, refl, sym, ap, subst, ◌∙◌, arith}
+use Rattle.std.proofs.Common.{◌≡◌, ◌<◌, ℕ, suc, ◌+◌, Bool, true, ◌||◌, if◌then◌else◌, List, [], ◌∷◌, map, length, slice_get, Option, Some, None, option_map, bytes_eq, codes, refl, sym, ap, subst, ◌∙◌, arith}
 use Rattle.std.specs.List.{list_any}
 use Rattle.std.proofs.lemmas.Bool.{and_from}
 use Rattle.std.proofs.lemmas.List.{length-append, length-map}
-use Rattle.std.proofs.lemmas.Option.{same_Some}
-use Rattle.kilim_lemmas.proofs.Lists.{get_right, get_some}
-use Rattle.kilim_lemmas.proofs.Truth.{or_false}
+use Rattle.std.proofs.lemmas.Option.{slice_get_within}
+use Rattle.kilim_lemmas.proofs.Lists.{get_right}
 use Rattle.kilim_class_file.specs.declared.class_file.ClassFile.{ClassFile}
 use Rattle.kilim_program.specs.declared.class.Class.{Class}
 use Rattle.kilim_program.specs.declared.class.Field.{Field}
 use Rattle.kilim_program.specs.declared.class.Form.{Form}
+use Rattle.kilim_program.specs.declared.class.Form.TheVariants.{Plain, Woven}
 use Rattle.kilim_program.specs.declared.class.Method.{Method}
 use Rattle.kilim_program.specs.declared.names.ClassId.{ClassId}
+use Rattle.kilim_program.specs.declared.ty.Kind.TheVariants.{Value, Tree, Private}
 use Rattle.kilim_program.specs.Program.{Program}
 use Rattle.kilim_program.specs.BuiltIn.{built_in_classes_in, class_id}
 use Rattle.kilim_program.specs.Keeps.{ancestors_of, each_class, each_class_from, line_above, superclass_of}
-use Rattle.kilim_program.specs.Kinds.{is_marked, is_message}
-use Rattle.kilim_program.specs.Names.{class_at, class_name, is_named_task, is_task, line_of}
+use Rattle.kilim_program.specs.Kinds.{class_kind, is_marked, is_message, is_value_class}
+use Rattle.kilim_program.specs.Names.{◌>>=◌, class_at, class_name, is_named_task, is_task, line_of}
+use Rattle.kilim_program.specs.Same.{same_flag}
 use Rattle.kilim_link_spec.specs.Linked.{linked_class, program_with}
-use Rattle.kilim_link_spec.specs.World.{World, world_of}
+use Rattle.kilim_link_spec.specs.World.{World, built_ins, world_of}
 use Rattle.kilim_link_laws.specs.Bridge.{Agree, bare}
 use Rattle.kilim_link_laws.proofs.Bared.{bared_agrees}
 use Rattle.kilim_link_laws.proofs.Bridge as bridge
 use Rattle.kilim_link_laws.proofs.Bridge.{LinkedClass, linked_class_is}
 use Rattle.kilim_link_laws.proofs.Linking.{Linking}
-use Rattle.kilim_link_laws.proofs.Lists.{Left, Right, Side, mapped_at, origin, side}
+use Rattle.kilim_link_laws.proofs.Lists.{Left, Right, Side, get_map, mapped_at, origin, side}
 use Rattle.kilim_link_laws.proofs.Made.{file_made}
-use Rattle.kilim_link_laws.proofs.Outline.{bare_built_in, begins, object_name, placed, short_line, up_to}
+use Rattle.kilim_link_laws.proofs.Outline.{HasUps, any_shifted, bare_built_in, by_table, flags_agree, line_shifted, placed, up_before}
+use Rattle.kilim_link_laws.proofs.Shifted.{shift_class}
 
 -- ---- a test of each class
 
@@ -64,17 +67,41 @@ pub data ClassOrigin (files : List ClassFile) (form : Form) (method n : ℕ) (cl
   OfFile : (file : ClassFile) → slice_get files n ≡ Some file → LinkedClass (world_of files form) file (class_id n) class → ClassOrigin files form method n class
   OfBuiltIn : (k : ℕ) → n ≡ length files + k → slice_get (built_in_classes_in form (length files) method) k ≡ Some class → ClassOrigin files form method n class
 
-abbrev pub only_up : Option ClassId → List ClassId
-only_up None = []
-only_up (Some o) = o ∷ []
+abbrev name_in : Option Class → List ℕ
+name_in o = elim o [ None ↦ [] | Some class ↦ class.name ]
 
--- what is known of `java/lang/Object`
-pub record Top (p : Program) (c : ClassId) : Type 0 where
-  pub class : Class
-  pub at : class_at p c ≡ Some class
-  pub name : class.name ≡ object_name
-  pub top : class.superclass ≡ None
-  pub unmarked : class.message ≡ false
+name_bare : (o : Option Class) → name_in (option_map bare o) ≡ name_in o
+name_bare None = refl
+name_bare (Some class) = refl
+
+name_placed : (first : ℕ) (o : Option Class) → name_in (option_map (placed first) o) ≡ name_in o
+name_placed first None = refl
+name_placed first (Some class) = refl
+
+mark_bare : (o : Option Class) → is_marked (option_map bare o) ≡ is_marked o
+mark_bare None = refl
+mark_bare (Some class) = refl
+
+mark_placed : (first : ℕ) (o : Option Class) → is_marked (option_map (placed first) o) ≡ is_marked o
+mark_placed first None = refl
+mark_placed first (Some class) = refl
+
+up_bare : (o : Option Class) → superclass_of (option_map bare o) ≡ superclass_of o
+up_bare None = refl
+up_bare (Some class) = refl
+
+up_placed : (first : ℕ) (o : Option Class) → superclass_of (option_map (placed first) o) ≡ option_map (shift_class first) (superclass_of o)
+up_placed first None = refl
+up_placed first (Some class) = refl
+
+up_is : (o : Option Class) → (o >>= λ (class : Class). class.superclass) ≡ superclass_of o
+up_is None = refl
+up_is (Some class) = refl
+
+-- a class of tasks among the built-in ones is `kilim/Task` itself
+tasks_agree : (form : Form) → each_class_from (λ c class. same_flag (is_task (built_ins form) c) (bytes_eq class.name (codes "kilim/Task"))) 0 (built_in_classes_in form 0 0) ≡ true
+tasks_agree Plain = refl
+tasks_agree Woven = refl
 
 module _ (files : List ClassFile) (form : Form) (classes : List Class) (fields : List Field) (methods : List Method) (l : Linking files form classes fields methods) where
   abbrev w : World
@@ -104,52 +131,43 @@ module _ (files : List ClassFile) (form : Form) (classes : List Class) (fields :
   pub built_at : (k : ℕ) (class : Class) → slice_get built k ≡ Some class → class_at p (class_id (length files + k)) ≡ Some class
   built_at k class there = let c = count in get_right classes built (length files + k) k (omega (arith, c)) ∙ there
 
-  pub top_class : Top p (class_id (length files))
-  top_class =
-      let b = begins form in
+  -- ---- the program is that of the built-in classes, from a number on
+
+  class_bared : (d : ClassId) → option_map bare (class_at p (shift_class (length files) d)) ≡ option_map (placed (length files)) (class_at (built_ins form) d)
+  class_bared d =
+      let c = count in
+      ap (option_map bare) (get_right classes built (length files + d.0) d.0 (omega (arith, c)))
+      ∙ (sym (get_map bare built d.0)
+      ∙ (ap (λ (cs : List Class). slice_get cs d.0) (bare_built_in form (length files) (length methods)) ∙ get_map (placed (length files)) (built_in_classes_in form 0 0) d.0))
+
+  pub name_shifted : (d : ClassId) → class_name p (shift_class (length files) d) ≡ class_name (built_ins form) d
+  name_shifted d = sym (name_bare (class_at p (shift_class (length files) d))) ∙ (ap name_in (class_bared d) ∙ name_placed (length files) (class_at (built_ins form) d))
+
+  pub message_shifted : (d : ClassId) → is_message p (shift_class (length files) d) ≡ is_message (built_ins form) d
+  message_shifted d = sym (mark_bare (class_at p (shift_class (length files) d))) ∙ (ap is_marked (class_bared d) ∙ mark_placed (length files) (class_at (built_ins form) d))
+
+  up_shifted : (d : ClassId) → superclass_of (class_at p (shift_class (length files) d)) ≡ option_map (shift_class (length files)) (superclass_of (class_at (built_ins form) d))
+  up_shifted d = sym (up_bare (class_at p (shift_class (length files) d))) ∙ (ap superclass_of (class_bared d) ∙ up_placed (length files) (class_at (built_ins form) d))
+
+  has_ups : HasUps p form (length files)
+  has_ups k class there = up_is (class_at p (class_id (length files + k))) ∙ (up_shifted (class_id k) ∙ ap (λ (o : Option Class). option_map (shift_class (length files)) (superclass_of o)) there)
+
+  pub built_line : (k : ℕ) → k < length (built_in_classes_in form 0 0) → line_of p (class_id (length files + k)) ≡ map (shift_class (length files)) (line_of (built_ins form) (class_id k))
+  built_line k within =
+      let both = length-append classes built in
+      let c = count in
       let len = length-built_in form (length files) (length methods) in
-      let some = b.count in
-      let t = get_some built 0 (omega (arith, len, some)) in
-      let o = built_in_of form (length files) (length methods) 0 t.0 t.1 in
-      let same : o.of ≡ b.object = same_Some o.of b.object (sym o.at ∙ b.at) in
-      let number : length files + 0 ≡ length files = omega arith in
-      record {
-        class = t.0;
-        at = ap (λ (n : ℕ). class_at p (class_id n)) (sym number) ∙ built_at 0 t.0 t.1;
-        name = ap (λ (c : Class). c.name) (sym o.is) ∙ (ap (λ (c : Class). c.name) same ∙ b.name);
-        top = ap (λ (c : Class). c.superclass) (sym o.is) ∙ (ap (λ (c : Class). option_map (λ (d : ClassId). class_id (length files)) c.superclass) same ∙ ap (option_map (λ (d : ClassId). class_id (length files))) b.top);
-        unmarked = ap (λ (c : Class). c.message) (sym o.is) ∙ (ap (λ (c : Class). c.message) same ∙ b.unmarked);
-      }
+      line_shifted p form (length files) (length p.classes) (length (built_in_classes_in form 0 0)) k has_ups (omega (arith, both, c, len, within)) within within
 
-  abbrev ups : Class → Option ClassId
-  ups of = option_map (λ (d : ClassId). class_id (length files)) of.superclass
+  above_by : (o : Option ClassId) → ((d : ClassId) → o ≡ Some d → d.0 < length (built_in_classes_in form 0 0)) → line_above p (option_map (shift_class (length files)) o) ≡ map (shift_class (length files)) (line_above (built_ins form) o)
+  above_by None within = refl
+  above_by (Some d) within = built_line d.0 (within d refl)
 
-  pub built_line : (k : ℕ) (class : Class) → slice_get built k ≡ Some class → (o : BuiltIn form (length files) k class) → line_of p (class_id (length files + k)) ≡ up_to (class_id (length files + k) ∷ []) (ups o.of)
-  built_line k class there o =
-      let b = begins form in
-      let t = top_class in
-      let number : length p.classes ≡ suc (suc (length files + b.more)) =
-      let both = length-append classes built in let c = count in let len = length-built_in form (length files) (length methods) in let some = b.count in
-      omega (arith, both, c, len, some) in
-      short_line p (length files + b.more) (class_id (length files + k)) (class_id (length files)) class t.class o.of.superclass number (built_at k class there) (ap (λ (c : Class). c.superclass) (sym o.is)) t.at t.top
-
-  top_line : line_of p (class_id (length files)) ≡ class_id (length files) ∷ []
-  top_line =
-      let b = begins form in
-      let t = top_class in
-      let number : length p.classes ≡ suc (suc (length files + b.more)) =
-      let both = length-append classes built in let c = count in let len = length-built_in form (length files) (length methods) in let some = b.count in
-      omega (arith, both, c, len, some) in
-      short_line p (length files + b.more) (class_id (length files)) (class_id (length files)) t.class t.class None number t.at t.top t.at t.top
-
-  above_by : (s : Option ClassId) → line_above p (option_map (λ (d : ClassId). class_id (length files)) s) ≡ only_up (option_map (λ (d : ClassId). class_id (length files)) s)
-  above_by None = refl
-  above_by (Some d) = top_line
-
-  pub built_ancestors : (k : ℕ) (class : Class) → slice_get built k ≡ Some class → (o : BuiltIn form (length files) k class) → ancestors_of p (class_id (length files + k)) ≡ only_up (ups o.of)
-  built_ancestors k class there o =
-      ap (λ (a : Option Class). line_above p (superclass_of a)) (built_at k class there)
-      ∙ (ap (λ (c : Class). line_above p c.superclass) (sym o.is) ∙ above_by o.of.superclass)
+  pub built_ancestors : (k : ℕ) (class : Class) → slice_get (built_in_classes_in form 0 0) k ≡ Some class → ancestors_of p (class_id (length files + k)) ≡ map (shift_class (length files)) (ancestors_of (built_ins form) (class_id k))
+  built_ancestors k class there =
+      let within = slice_get_within (built_in_classes_in form 0 0) k class there in
+      ap (line_above p) (up_shifted (class_id k))
+      ∙ above_by (superclass_of (class_at (built_ins form) (class_id k))) (λ d is. let less = up_before form k class d there (ap superclass_of (sym there) ∙ is) in omega (arith, less, within))
 
   pub built_name : (k : ℕ) (class : Class) → slice_get built k ≡ Some class → (o : BuiltIn form (length files) k class) → class_name p (class_id (length files + k)) ≡ o.of.name
   built_name k class there o =
@@ -158,20 +176,19 @@ module _ (files : List ClassFile) (form : Form) (classes : List Class) (fields :
   pub built_message : (k : ℕ) (class : Class) → slice_get built k ≡ Some class → (o : BuiltIn form (length files) k class) → is_message p (class_id (length files + k)) ≡ o.of.message
   built_message k class there o = ap is_marked (built_at k class there) ∙ ap (λ (c : Class). c.message) (sym o.is)
 
-  pub top_name : class_name p (class_id (length files)) ≡ object_name
-  top_name = let t = top_class in ap (λ (a : Option Class). elim a [ None ↦ [] | Some c ↦ c.name ]) t.at ∙ t.name
+  pub task_shifted : (k : ℕ) → k < length (built_in_classes_in form 0 0) → is_task p (class_id (length files + k)) ≡ is_task (built_ins form) (class_id k)
+  task_shifted k within =
+      ap (list_any (is_named_task p)) (built_line k within)
+      ∙ any_shifted (length files) (is_named_task p) (is_named_task (built_ins form)) (λ d. ap (λ (name : List ℕ). bytes_eq name (codes "kilim/Task")) (name_shifted d)) (line_of (built_ins form) (class_id k))
 
-  top_no_task : is_named_task p (class_id (length files)) ≡ false
-  top_no_task = ap (λ (name : List ℕ). bytes_eq name (codes "kilim/Task")) top_name
+  pub built_task : (k : ℕ) (class : Class) → slice_get (built_in_classes_in form 0 0) k ≡ Some class → is_task p (class_id (length files + k)) ≡ bytes_eq class.name (codes "kilim/Task")
+  built_task k class there =
+      task_shifted k (slice_get_within (built_in_classes_in form 0 0) k class there)
+      ∙ flags_agree _ _ (by_table form (λ c class. same_flag (is_task (built_ins form) c) (bytes_eq class.name (codes "kilim/Task"))) (tasks_agree form) k class there)
 
-  tasks_by : (c : ClassId) (s : Option ClassId) → list_any (is_named_task p) (up_to (c ∷ []) (option_map (λ (d : ClassId). class_id (length files)) s)) ≡ is_named_task p c
-  tasks_by c None = or_false (is_named_task p c)
-  tasks_by c (Some d) = ap (λ (b : Bool). is_named_task p c || (b || false)) top_no_task ∙ or_false (is_named_task p c)
-
-  pub built_task : (k : ℕ) (class : Class) → slice_get built k ≡ Some class → (o : BuiltIn form (length files) k class) → is_task p (class_id (length files + k)) ≡ bytes_eq o.of.name (codes "kilim/Task")
-  built_task k class there o =
-      ap (list_any (is_named_task p)) (built_line k class there o)
-      ∙ (tasks_by (class_id (length files + k)) o.of.superclass ∙ ap (λ (name : List ℕ). bytes_eq name (codes "kilim/Task")) (built_name k class there o))
-
-  pub top_task : is_task p (class_id (length files)) ≡ false
-  top_task = ap (list_any (is_named_task p)) top_line ∙ ap (λ (b : Bool). b || false) top_no_task
+  pub kind_shifted : (k : ℕ) → k < length (built_in_classes_in form 0 0) → class_kind p (class_id (length files + k)) ≡ class_kind (built_ins form) (class_id k)
+  kind_shifted k within =
+      let c = class_id (length files + k) in
+      ap (λ (n : List ℕ). if is_value_class n then Value else (if is_task p c || is_message p c then Tree else Private)) (name_shifted (class_id k))
+      ∙ (ap (λ (b : Bool). if is_value_class (class_name (built_ins form) (class_id k)) then Value else (if b || is_message p c then Tree else Private)) (task_shifted k within)
+      ∙ ap (λ (b : Bool). if is_value_class (class_name (built_ins form) (class_id k)) then Value else (if is_task (built_ins form) (class_id k) || b then Tree else Private)) (message_shifted (class_id k)))

@@ -1,5 +1,5 @@
 -- An overriding method agrees with what it overrides.
-use Rattle.std.proofs.Common.{◌≡◌, ℕ, ◌+◌, Bool, true, false, ◌&&◌, not, nat_lt, List, [], map, length, slice_get, Option, Some, None, option_map, filter, bytes_eq, codes, refl, sym, ap, ◌∙◌, ltb-true, arith}
+use Rattle.std.proofs.Common.{◌≡◌, ℕ, ◌+◌, Bool, true, false, ◌&&◌, not, nat_lt, List, [], ◌∷◌, map, length, slice_get, Option, Some, None, option_map, filter, bytes_eq, codes, refl, sym, ap, ◌∙◌, ltb-true, arith}
 use Rattle.std.specs.List.{flat_map, list_all}
 use Rattle.std.proofs.lemmas.Bool.{and_from, and_parts, both_ways, not-false, not-true, not_from_false, or_left, or_right}
 use Rattle.std.proofs.lemmas.Option.{same_Some}
@@ -16,7 +16,7 @@ use Rattle.kilim_program.specs.declared.names.ClassId.{ClassId}
 use Rattle.kilim_program.specs.declared.names.MethodId.{MethodId}
 use Rattle.kilim_program.specs.Program.{Program}
 use Rattle.kilim_program.specs.BuiltIn.{built_in_classes_in, built_in_methods_in, class_id}
-use Rattle.kilim_program.specs.Keeps.{agrees as method_agrees, agrees_with, ancestors_of, overriding_agrees, overrides}
+use Rattle.kilim_program.specs.Keeps.{agrees as method_agrees, agrees_with, ancestors_of, each_class_from, overriding_agrees, overrides}
 use Rattle.kilim_program.specs.Names.{class_at, method_at, methods_of}
 use Rattle.kilim_program.specs.Same.{is_constructor, same_flag, same_signature}
 use Rattle.kilim_link_spec.specs.Faults.{agrees, differs_from, override_differs, overrides_badly, same_qualified}
@@ -35,12 +35,12 @@ use Rattle.kilim_link_laws.proofs.Linking.{Linking, linking, none_passes}
 use Rattle.kilim_link_laws.proofs.Lists.{Left, Right, Side, all_at, all_by_places, mapped_at, none_at, side}
 use Rattle.kilim_link_laws.proofs.Members.{member_made}
 use Rattle.kilim_link_laws.proofs.Origins as origins
-use Rattle.kilim_link_laws.proofs.Origins.{built_in_of, length-built_in, only_up}
-use Rattle.kilim_link_laws.proofs.Outline.{begins}
+use Rattle.kilim_link_laws.proofs.Origins.{built_in_of, length-built_in}
+use Rattle.kilim_link_laws.proofs.Outline.{by_table}
 use Rattle.kilim_link_laws.proofs.Positions as positions
 use Rattle.kilim_link_laws.proofs.Resolved.{same_descriptor}
 use Rattle.kilim_link_laws.proofs.Seen.{Seen, seen_own}
-use Rattle.kilim_link_laws.proofs.Shifted.{built_in_method_of, shift_method}
+use Rattle.kilim_link_laws.proofs.Shifted.{built_in_method_of, shift_class, shift_method}
 
 -- ---- no problem
 
@@ -95,10 +95,13 @@ abbrev constructs : Option Method → Bool
 constructs None = false
 constructs (Some m) = is_constructor m
 
--- those of `java/lang/Object` are constructors
-object_constructs : (form : Form) (class : Class) → slice_get (built_in_classes_in form 0 0) 0 ≡ Some class → list_all (λ (id : MethodId). constructs (method_at (built_ins form) id)) class.methods ≡ true
-object_constructs Plain class there = ap (λ (c : Class). list_all (λ (id : MethodId). constructs (method_at (built_ins Plain) id)) c.methods) (sym (same_Some _ class there))
-object_constructs Woven class there = ap (λ (c : Class). list_all (λ (id : MethodId). constructs (method_at (built_ins Woven) id)) c.methods) (sym (same_Some _ class there))
+-- the classes above one are built in too, and their methods are constructors
+abbrev constructs_alone : Form → ClassId → Bool
+constructs_alone form d = nat_lt d.0 (length (built_in_classes_in form 0 0)) && list_all (λ (id : MethodId). constructs (method_at (built_ins form) id)) (methods_of (built_ins form) d)
+
+ancestors_construct : (form : Form) → each_class_from (λ c class. list_all (constructs_alone form) (ancestors_of (built_ins form) c)) 0 (built_in_classes_in form 0 0) ≡ true
+ancestors_construct Plain = refl
+ancestors_construct Woven = refl
 
 -- nothing overrides a constructor
 no_override : (a b : Method) → is_constructor b ≡ true → agrees_with a (Some b) ≡ true
@@ -160,34 +163,35 @@ module _ (files : List ClassFile) (form : Form) (classes : List Class) (fields :
       ∙ all_flat (methods_of p) (λ (o : MethodId). agrees_with m (method_at p o)) (ancestors_of w.outline c)
       (λ n d above. all_agree c dm m (seen_own w made.file c made.member m f) badly n d above (class_at p d) refl))
 
-  -- of `java/lang/Object` nothing is overridden
-  object_open : (a : Method) → list_all (λ (id : MethodId). agrees_with a (method_at p id)) (methods_of p (class_id len)) ≡ true
-  object_open a =
-      let built = built_in_classes_in form len (length methods) in
-      let b = begins form in
-      let some = b.count in
+  -- of a built-in class that has constructors alone nothing is overridden
+  class_open : (a : Method) (d : ClassId) → constructs_alone form d ≡ true → list_all (λ (id : MethodId). agrees_with a (method_at p id)) (methods_of p (shift_class len d)) ≡ true
+  class_open a d alone =
+      let parts = and_parts (nat_lt d.0 (length (built_in_classes_in form 0 0))) _ alone in
+      let within = ltb-true d.0 (length (built_in_classes_in form 0 0)) parts.0 in
       let count = length-built_in form len (length methods) in
-      let t = get_some built 0 (omega (arith, some, count)) in
-      let o = built_in_of form len (length methods) 0 t.0 t.1 in
-      let number : len + 0 ≡ len = omega arith in
-      let at : class_at p (class_id len) ≡ Some t.0 = ap (λ (n : ℕ). class_at p (class_id n)) (sym number) ∙ origins.built_at files form classes fields methods l 0 t.0 t.1 in
-      ap (λ (c : Option Class). list_all (λ (id : MethodId). agrees_with a (method_at p id)) (elim c [ None ↦ [] | Some class ↦ class.methods ])) at
+      let t = get_some (built_in_classes_in form len (length methods)) d.0 (omega (arith, within, count)) in
+      let o = built_in_of form len (length methods) d.0 t.0 t.1 in
+      let own : list_all (λ (id : MethodId). constructs (method_at (built_ins form) id)) o.of.methods ≡ true =
+      ap (λ (c : Option Class). list_all (λ (id : MethodId). constructs (method_at (built_ins form) id)) (elim c [ None ↦ [] | Some class ↦ class.methods ])) (sym o.at) ∙ parts.1 in
+      ap (λ (c : Option Class). list_all (λ (id : MethodId). agrees_with a (method_at p id)) (elim c [ None ↦ [] | Some class ↦ class.methods ])) (origins.built_at files form classes fields methods l d.0 t.0 t.1)
       ∙ all_by_places (λ (id : MethodId). agrees_with a (method_at p id)) t.0.methods (λ i id inside.
-      let m = positions.built_at files form classes fields methods l 0 t.0 t.1 o i id inside in
-      let constructor = all_at (λ (d : MethodId). constructs (method_at (built_ins form) d)) o.of.methods (object_constructs form o.of o.at) i m.id0 m.at in
+      let m = positions.built_at files form classes fields methods l d.0 t.0 t.1 o i id inside in
+      let constructor = all_at (λ (e : MethodId). constructs (method_at (built_ins form) e)) o.of.methods own i m.id0 m.at in
       ap (agrees_with a) m.method_is ∙ no_override a (shift_method len m.of) (ap constructs (sym m.of_is) ∙ constructor))
 
-  up_open : (a : Method) (s : Option ClassId) → list_all (λ (id : MethodId). agrees_with a (method_at p id)) (flat_map (methods_of p) (only_up (option_map (λ (d : ClassId). class_id len) s))) ≡ true
-  up_open a None = refl
-  up_open a (Some d) = all_append (λ (id : MethodId). agrees_with a (method_at p id)) (methods_of p (class_id len)) [] (object_open a) refl
+  line_open : (a : Method) (ds : List ClassId) → list_all (constructs_alone form) ds ≡ true → list_all (λ (id : MethodId). agrees_with a (method_at p id)) (flat_map (methods_of p) (map (shift_class len) ds)) ≡ true
+  line_open a [] alone = refl
+  line_open a (d ∷ ds) alone =
+      let parts = and_parts (constructs_alone form d) (list_all (constructs_alone form) ds) alone in
+      all_append (λ (id : MethodId). agrees_with a (method_at p id)) (methods_of p (shift_class len d)) (flat_map (methods_of p) (map (shift_class len) ds)) (class_open a d parts.0) (line_open a ds parts.1)
 
   -- one of a built-in class
   fits_of_class : (m : Method) (c : ℕ) (class : Class) → slice_get (built_in_classes_in form len (length methods)) c ≡ Some class → m.owner ≡ class_id (len + c) → fits m ≡ true
   fits_of_class m c class there owner =
       let q = built_in_of form len (length methods) c class there in
       ap (λ (d : ClassId). list_all (λ (id : MethodId). agrees_with m (method_at p id)) (flat_map (methods_of p) (ancestors_of p d))) owner
-      ∙ (ap (λ (ds : List ClassId). list_all (λ (id : MethodId). agrees_with m (method_at p id)) (flat_map (methods_of p) ds)) (origins.built_ancestors files form classes fields methods l c class there q)
-      ∙ up_open m q.of.superclass)
+      ∙ (ap (λ (ds : List ClassId). list_all (λ (id : MethodId). agrees_with m (method_at p id)) (flat_map (methods_of p) ds)) (origins.built_ancestors files form classes fields methods l c q.of q.at)
+      ∙ line_open m (ancestors_of (built_ins form) (class_id c)) (by_table form (λ c class. list_all (constructs_alone form) (ancestors_of (built_ins form) c)) (ancestors_construct form) c q.of q.at))
 
   built_fits : (k : ℕ) (m : Method) → slice_get (built_in_methods_in form len) k ≡ Some m → fits m ≡ true
   built_fits k m there =

@@ -1,4 +1,5 @@
--- No class of the files is `kilim/Fiber`, and their superclasses are of the files, `java/lang/Object` or `kilim/Task`.
+-- No class of the files is `kilim/Fiber`, and their superclasses are of the files, `java/lang/Object`,
+-- `kilim/Task` or a class of exceptions.
 use Rattle.std.proofs.Common.{◌≡◌, ℕ, ◌+◌, Bool, true, false, ◌||◌, not, nat_lt, List, [], map, length, take, slice_get, Option, Some, None, option_map, bytes_eq, codes, refl, sym, ap, ◌∙◌, arith}
 use Rattle.std.specs.List.{list_all, list_any}
 use Rattle.std.proofs.lemmas.Bool.{and_from, and_parts, lt-ltb, not_from_false, or_left, or_parts, or_right}
@@ -14,7 +15,7 @@ use Rattle.kilim_program.specs.declared.class.Form.TheVariants.{Plain, Woven}
 use Rattle.kilim_program.specs.declared.class.Method.{Method}
 use Rattle.kilim_program.specs.declared.names.ClassId.{ClassId}
 use Rattle.kilim_program.specs.Program.{Program}
-use Rattle.kilim_program.specs.BuiltIn.{built_in_classes_in, class_id}
+use Rattle.kilim_program.specs.BuiltIn.{built_in_classes_in, class_id, is_exception}
 use Rattle.kilim_program.specs.Keeps.{is_open_superclass, own_class_fits, own_classes_fit, own_count}
 use Rattle.kilim_program.specs.Names.{class_name}
 use Rattle.kilim_link_spec.specs.Faults.{is_fiber, is_open, is_open_class, may_extend}
@@ -43,8 +44,8 @@ open_up : (w : World) (c up : ClassId) (o : Option ClassId) → o ≡ Some up �
 open_up w c up None is e = absurd (cc)
 open_up w c up (Some d) is e = ap (λ (f : ClassId). is_open_class (view_at w f)) (sym (same_Some d up is)) ∙ (and_parts (is_open_class (view_at w d)) _ e).0
 
--- in woven form the fiber is the eighth of the built-in classes
-fiber_view : (view : ClassView) × (slice_get (built_views Woven) 7 ≡ Some view) × (view.name ≡ codes "kilim/Fiber")
+-- in woven form the fiber is the last of the built-in classes
+fiber_view : (view : ClassView) × (slice_get (built_views Woven) 18 ≡ Some view) × (view.name ≡ codes "kilim/Fiber")
 fiber_view = (_, refl, refl)
 
 module _ (files : List ClassFile) (form : Form) (classes : List Class) (fields : List Field) (methods : List Method) (l : Linking files form classes fields methods) where
@@ -78,7 +79,7 @@ module _ (files : List ClassFile) (form : Form) (classes : List Class) (fields :
 
   -- ---- superclasses
 
-  named_open : (v : ClassView) → v.is_built_in ≡ true → is_open v ≡ true → (bytes_eq v.name (codes "java/lang/Object") || bytes_eq v.name (codes "kilim/Task")) ≡ true
+  named_open : (v : ClassView) → v.is_built_in ≡ true → is_open v ≡ true → (bytes_eq v.name (codes "java/lang/Object") || (bytes_eq v.name (codes "kilim/Task") || is_exception v.name)) ≡ true
   named_open v built e = second (not v.is_built_in) _ (ap not built) (and_parts (not v.is_final) _ e).1
     where
       second : (a b : Bool) → a ≡ false → (a || b) ≡ true → b ≡ true
@@ -94,7 +95,7 @@ module _ (files : List ClassFile) (form : Form) (classes : List Class) (fields :
   open_by up v there e (Right k is at) =
       let o = origin (view_of_built_in (built_ins form)) (built_in_classes_in form 0 0) k v at in
       let built : v.is_built_in ≡ true = ap (λ (z : ClassView). z.is_built_in) (sym o.is) in
-      or_right (nat_lt up.0 (own_count p)) _ (ap (λ (name : List ℕ). bytes_eq name (codes "java/lang/Object") || bytes_eq name (codes "kilim/Task")) (view_name up.0 v there) ∙ named_open v built e)
+      or_right (nat_lt up.0 (own_count p)) _ (ap (λ (name : List ℕ). bytes_eq name (codes "java/lang/Object") || (bytes_eq name (codes "kilim/Task") || is_exception name)) (view_name up.0 v there) ∙ named_open v built e)
 
   open_super : (n : ℕ) (file : ClassFile) (class : Class) → slice_get files n ≡ Some file → LinkedClass w file (class_id n) class → is_open_superclass p class.superclass ≡ true
   unfolding world_of
@@ -116,8 +117,8 @@ module _ (files : List ClassFile) (form : Form) (classes : List Class) (fields :
       let within = slice_get_within files n file there in
       let views_count = length-map files view_of_file in
       let here = get_left (map view_of_file files) (built_views form) n (view_of_file file) (mapped_at view_of_file files n file there) in
-      let place = length (map view_of_file files) + 7 in
-      let fiber : slice_get (views files form) place ≡ Some v.0 = get_right (map view_of_file files) (built_views form) place 7 refl ∙ (ap (λ (f : Form). slice_get (built_views f) 7) is ∙ v.1) in
+      let place = length (map view_of_file files) + 18 in
+      let fiber : slice_get (views files form) place ≡ Some v.0 = get_right (map view_of_file files) (built_views form) place 18 refl ∙ (ap (λ (f : Form). slice_get (built_views f) 18) is ∙ v.1) in
       ap (bytes_eq (own_name file)) (sym v.2) ∙ unique.names_apart files form classes fields methods l n place (view_of_file file) v.0 (omega (arith, within, views_count)) here fiber
 
   fits_at : (n : ℕ) (class : Class) → slice_get classes n ≡ Some class → own_class_fits p class ≡ true

@@ -32,6 +32,7 @@ use Rattle.kilim_link_laws.proofs.Made.{each_length}
 use Rattle.kilim_link_laws.proofs.Members.{MemberMade, before, length-made, member_made}
 use Rattle.kilim_link_laws.proofs.Origins as origins
 use Rattle.kilim_link_laws.proofs.Origins.{ClassOrigin, OfBuiltIn, OfFile, built_in_of, each_by_places}
+use Rattle.kilim_link_laws.proofs.Outline.{by_table}
 use Rattle.kilim_link_laws.proofs.Owners.{before_all, before_is_sum, none_owned, owned-append, owned_by_numbers, owned_numbers, owned_shifted, row_owned}
 use Rattle.kilim_link_laws.proofs.Unique.{built_views}
 
@@ -129,15 +130,6 @@ table : (form : Form) → each_class_from (λ c class. bytes_eq (numbers_of clas
 table Plain = refl
 table Woven = refl
 
-each_class_at : (test : ClassId → Class → Bool) (n : ℕ) (classes : List Class) → each_class_from test n classes ≡ true → (k : ℕ) (class : Class) → slice_get classes k ≡ Some class → test (class_id (n + k)) class ≡ true
-each_class_at test n [] all k class there = absurd (none-some class there)
-each_class_at test n (other ∷ classes) all zero class there =
-    let number : n + 0 ≡ n = omega arith in
-    ap (λ (m : ℕ). test (class_id m) class) number ∙ (ap (test (class_id n)) (sym (same_Some other class there)) ∙ (and_parts (test (class_id n) other) (each_class_from test (suc n) classes) all).0)
-each_class_at test n (other ∷ classes) all (suc k) class there =
-    let number : n + suc k ≡ suc n + k = omega arith in
-    ap (λ (m : ℕ). test (class_id m) class) number ∙ each_class_at test (suc n) classes (and_parts (test (class_id n) other) (each_class_from test (suc n) classes) all).1 k class there
-
 module _ (files : List ClassFile) (form : Form) (classes : List Class) (fields : List Field) (methods : List Method) (l : Linking files form classes fields methods) where
   abbrev w : World
   w = world_of files form
@@ -208,10 +200,7 @@ module _ (files : List ClassFile) (form : Form) (classes : List Class) (fields :
   built_numbers : (k : ℕ) (class : Class) → slice_get (built_in_classes_in form len (length methods)) k ≡ Some class → numbers_of class ≡ map (λ (i : ℕ). length methods + i) (owned_numbers k 0 owners)
   built_numbers k class there =
       let o = built_in_of form len (length methods) k class there in
-      let place : 0 + k ≡ k = omega arith in
-      let own : numbers_of o.of ≡ owned_numbers k 0 owners =
-      text_is _ _ (each_class_at (λ c class. bytes_eq (numbers_of class) (owned_numbers c.0 0 owners)) 0 (built_in_classes_in form 0 0) (table form) k o.of o.at)
-      ∙ ap (λ (n : ℕ). owned_numbers n 0 owners) place in
+      let own : numbers_of o.of ≡ owned_numbers k 0 owners = text_is _ _ (by_table form (λ c class. bytes_eq (numbers_of class) (owned_numbers c.0 0 owners)) (table form) k o.of o.at) in
       let shifted : numbers_of class ≡ map (λ (i : ℕ). length methods + i) (numbers_of o.of) = same_Some _ _
       (sym (mapped_at numbers_of (built_in_classes_in form len (length methods)) k class there) ∙ (ap (λ (xs : List (List ℕ)). slice_get xs k) (numbers_shifted form len (length methods))
       ∙ mapped_at (λ (c : Class). map (λ (i : ℕ). length methods + i) (numbers_of c)) (built_in_classes_in form 0 0) k o.of o.at)) in

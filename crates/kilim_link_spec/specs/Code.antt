@@ -13,7 +13,7 @@ use Rattle.kilim_class_pool.specs.declared.entry.Entry.TheVariants as entry
 use Rattle.kilim_class_pool.specs.Entries.{entry_at}
 use Rattle.kilim_class_file.specs.Parts.{text_of}
 use Rattle.kilim_program.specs.declared.instr.Instr.{Instr}
-use Rattle.kilim_program.specs.declared.instr.Instr.TheVariants.{Nop, AconstNull, Iconst, Lconst, Bipush, Sipush, Ldc, LdcW, Ldc2W, Iload, Lload, Aload, Iaload, Laload, Aaload, Baload, Caload, Saload, Istore, Lstore, Astore, Iastore, Lastore, Aastore, Bastore, Castore, Sastore, Pop, Pop2, Dup, DupX1, DupX2, Dup2, Dup2X1, Dup2X2, Swap, Iadd, Ladd, Isub, Lsub, Imul, Lmul, Idiv, Ldiv, Irem, Lrem, Ineg, Lneg, Ishl, Lshl, Ishr, Lshr, Iushr, Lushr, Iand, Land, Ior, Lor, Ixor, Lxor, Iinc, I2l, L2i, I2b, I2c, I2s, Lcmp, Ifeq, Ifne, Iflt, Ifge, Ifgt, Ifle, IfIcmpeq, IfIcmpne, IfIcmplt, IfIcmpge, IfIcmpgt, IfIcmple, IfAcmpeq, IfAcmpne, Goto, Tableswitch, Lookupswitch, Ireturn, Lreturn, Areturn, Return, Getstatic, Getfield, Putfield, Invokevirtual, Invokespecial, Invokestatic, New, Newarray, Anewarray, Arraylength, Checkcast, Instanceof, Ifnull, Ifnonnull, GotoW}
+use Rattle.kilim_program.specs.declared.instr.Instr.TheVariants.{Nop, AconstNull, Iconst, Lconst, Bipush, Sipush, Ldc, LdcW, Ldc2W, Iload, Lload, Aload, Iaload, Laload, Aaload, Baload, Caload, Saload, Istore, Lstore, Astore, Iastore, Lastore, Aastore, Bastore, Castore, Sastore, Pop, Pop2, Dup, DupX1, DupX2, Dup2, Dup2X1, Dup2X2, Swap, Iadd, Ladd, Isub, Lsub, Imul, Lmul, Idiv, Ldiv, Irem, Lrem, Ineg, Lneg, Ishl, Lshl, Ishr, Lshr, Iushr, Lushr, Iand, Land, Ior, Lor, Ixor, Lxor, Iinc, I2l, L2i, I2b, I2c, I2s, Lcmp, Ifeq, Ifne, Iflt, Ifge, Ifgt, Ifle, IfIcmpeq, IfIcmpne, IfIcmplt, IfIcmpge, IfIcmpgt, IfIcmple, IfAcmpeq, IfAcmpne, Goto, Tableswitch, Lookupswitch, Ireturn, Lreturn, Areturn, Return, Getstatic, Getfield, Putfield, Invokevirtual, Invokespecial, Invokestatic, New, Newarray, Anewarray, Arraylength, Athrow, Checkcast, Instanceof, Ifnull, Ifnonnull, GotoW}
 use Rattle.kilim_program.specs.declared.names.FieldId.{FieldId}
 use Rattle.kilim_program.specs.declared.names.MethodId.{MethodId}
 use Rattle.kilim_program.specs.declared.ty.Base.{Base}
@@ -136,7 +136,7 @@ plain_instrs =
     ∷ (120, Ishl) ∷ (121, Lshl) ∷ (122, Ishr) ∷ (123, Lshr) ∷ (124, Iushr) ∷ (125, Lushr)
     ∷ (126, Iand) ∷ (127, Land) ∷ (128, Ior) ∷ (129, Lor) ∷ (130, Ixor) ∷ (131, Lxor)
     ∷ (133, I2l) ∷ (136, L2i) ∷ (145, I2b) ∷ (146, I2c) ∷ (147, I2s) ∷ (148, Lcmp)
-    ∷ (172, Ireturn) ∷ (173, Lreturn) ∷ (176, Areturn) ∷ (177, Return) ∷ (190, Arraylength)
+    ∷ (172, Ireturn) ∷ (173, Lreturn) ∷ (176, Areturn) ∷ (177, Return) ∷ (190, Arraylength) ∷ (191, Athrow)
     ∷ []
 
 -- those with a slot

@@ -18,6 +18,7 @@ use Rattle.kilim_class_code.specs.declared.opcodes.fault.OpFault.TheVariants as 
 use Rattle.kilim_program.specs.declared.class.Form.{Form}
 use Rattle.kilim_program.specs.declared.names.ClassId.{ClassId}
 use Rattle.kilim_program.specs.declared.ty.Ty.{Ty}
+use Rattle.kilim_program.specs.BuiltIn.{is_exception}
 use Rattle.kilim_program.specs.Names.{◌>>=◌, is_task, is_empty}
 use Rattle.kilim_program.specs.Kinds.{class_kind, field_may_hold, is_message}
 use Rattle.kilim_program.specs.Keeps.{ancestors_of, superclass_fits}
@@ -235,9 +236,9 @@ descriptor_broken w file c = map problem.Descriptor (flat_map no_descriptors (me
 
 -- ---- a superclass that a class may not have
 
--- a class may be extended: it isn't final, and not built in but for `java/lang/Object` and `kilim/Task`
+-- a class may be extended: it isn't final, and not built in but for `java/lang/Object`, `kilim/Task` and the classes of exceptions
 abbrev pub is_open : ClassView → Bool
-is_open v = not v.is_final && (not v.is_built_in || (bytes_eq v.name (codes "java/lang/Object") || bytes_eq v.name (codes "kilim/Task")))
+is_open v = not v.is_final && (not v.is_built_in || (bytes_eq v.name (codes "java/lang/Object") || (bytes_eq v.name (codes "kilim/Task") || is_exception v.name)))
 
 -- a class that isn't there is missing, and no fault of this kind
 abbrev pub is_open_class : Option ClassView → Bool

@@ -71,8 +71,8 @@ pub enum Problem {
     Code(MemberName, CodeFault),
     /// A text is no descriptor, or has more than 255 argument slots.
     Descriptor(Units),
-    /// The superclass is final, built in other than `java/lang/Object` and `kilim/Task`, or of a kind that this class
-    /// may not have as its superclass.
+    /// The superclass is final, built in other than `java/lang/Object`, `kilim/Task` and the classes of
+    /// exceptions, or of a kind that this class may not have as its superclass.
     SuperKind,
     /// The name of the class has an empty part, or holds `.`, `;`, `[` or an unpaired surrogate, or takes more than
     /// 65,000 bytes of modified UTF-8.

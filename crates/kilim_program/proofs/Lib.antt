@@ -1,3 +1,4 @@
 mod BuiltInPrograms
 mod BrokenPrograms
+pub mod BuiltIns
 pub mod Upward

@@ -1,4 +1,5 @@
 mod Lists
 mod Numbers
-pub mod Rising
 mod Steps
+pub mod ByName
+pub mod Rising

@@ -4,6 +4,7 @@ pub mod BuiltIn
 pub mod Kinds
 pub mod Same
 pub mod Fits
+pub mod Handlers
 pub mod Lengths
 pub mod Keeps
 pub mod Examples

@@ -1,5 +1,5 @@
 -- What a task does is what its thread does in the shared machine.
-use Rattle.std.proofs.Common.{◌≡◌, ◌<◌, ◌≤◌, ℕ, Bool, true, false, cond, List, [], ◌∷◌, ◌++◌, Option, Some, None, map, length, ◌⊎◌, inl, inr, refl, sym, ap, subst, ◌∙◌, arith}
+use Rattle.std.proofs.Common.{◌≡◌, ◌<◌, ◌≤◌, ℕ, Bool, true, false, cond, List, [], ◌∷◌, ◌++◌, Option, Some, None, map, length, ◌⊎◌, inl, inr, sym, ap, subst, ◌∙◌, arith}
 use Rattle.std.proofs.lemmas.Bool.Decides.{nat_tests}
 use Rattle.std.specs.Prelude.{◌==◌, nat_lt, slice_set}
 use Rattle.kilim_lemmas.proofs.Lists.{set_length}
@@ -11,15 +11,14 @@ use Rattle.kilim_run_state.specs.declared.cause.EndCause.TheVariants as cause
 use Rattle.kilim_run_state.specs.declared.value.Token.{Token}
 use Rattle.kilim_run_journal.specs.declared.entry.Act.{Act}
 use Rattle.kilim_run_journal.specs.declared.entry.Act.TheVariants.{Put, Start, Print, End}
-use Rattle.kilim_run_model.specs.State.{Alive, Mailbox, Setting, State, Thread, Ended, execute_frames, is_full, with_mailbox, with_message, with_queue}
-use Rattle.kilim_run_model.specs.Lone.{Next, Puts, Gets, Probes, Starts, Prints, Ends, ended, pushed_on}
-use Rattle.kilim_run_model.specs.Turn.{acted, gets, moved_by, probes, puts, starts_with, takes, task_limit, with_lone}
+use Rattle.kilim_run_model.specs.State.{Alive, Mailbox, Setting, State, Thread, Ended, bounded, execute_frames, is_full, with_mailbox, with_message, with_queue}
+use Rattle.kilim_run_model.specs.Lone.{Next, Puts, PutWaits, Bounds, Gets, Probes, Starts, Prints, Ends, ended, pushed_on}
+use Rattle.kilim_run_model.specs.Turn.{acted, gets, moved_by, probes, puts, quiet, starts_with, takes, task_limit, with_lone}
 use Rattle.kilim_replay_thread.specs.Live.{behind_at, behind_in, calls_in, ended_at, thread_in, with_thread}
 use Rattle.kilim_replay_thread.specs.declared.task.Live.{Live}
 use Rattle.kilim_replay_thread.specs.declared.task.World.{World}
-use Rattle.kilim_replay.specs.Machine.{HasEnded, HasFoundNone, HasPrinted, HasPut, HasStarted, HasTaken, IsDone, Views, thread_of}
-use Rattle.kilim_replay.specs.Mailboxes.{mail_in, mail_of, named}
-use Rattle.kilim_replay.specs.declared.mailboxes.Post.{Post}
+use Rattle.kilim_replay.specs.Machine.{HasBounded, HasEnded, HasFoundNone, HasPrinted, HasPut, HasStarted, HasTaken, IsDone, Views, thread_of}
+use Rattle.kilim_replay.specs.Mailboxes.{mail_of}
 use Rattle.kilim_replay.specs.declared.machine.Machine.{Machine}
 use Rattle.kilim_replay.specs.declared.machine.Task.TheVariants as a_task
 use Rattle.kilim_replay.specs.declared.mailboxes.Mailboxes.{Mailboxes}
@@ -33,13 +32,8 @@ module _ (set : Setting) (t : ℕ) (old : Machine) (l : Live) (s : State) (views
   some_act : (a : Act) → act ≡ a → Some a ≡ Some act
   some_act a e = ap (λ (x : Act). Some x) (sym e)
 
-  -- no mailbox has a bound
-  not_full : (name : BoxName) → is_full (s.mailboxes name) ≡ false
-  not_full name = ap (λ (m : Mailbox ℕ). is_full m) (views.mailboxes name) ∙ unbounded (named old.mailboxes name)
-    where
-      unbounded : (o : Option Post) → is_full (mail_in o) ≡ false
-      unbounded None = refl
-      unbounded (Some post) = refl
+  full_as : (name : BoxName) (z : Bool) → is_full (mail_of old.mailboxes name) ≡ z → is_full (s.mailboxes name) ≡ z
+  full_as name z e = ap (λ (m : Mailbox ℕ). is_full m) (views.mailboxes name) ∙ e
 
   put_into : (name : BoxName) (root : ℕ) (shape : List Token) → HasPut t name root shape l old new act → IsDone (puts (with_lone s t (behind_at t old.world l)) name root shape) new act
   put_into name root shape put = record {
@@ -50,10 +44,23 @@ module _ (set : Setting) (t : ℕ) (old : Machine) (l : Live) (s : State) (views
         (λ box. mailed s.mailboxes (mail_of old.mailboxes) name (with_message (s.mailboxes name) root) (with_message (mail_of old.mailboxes name) root) views.mailboxes (ap (λ (m : Mailbox ℕ). with_message m root) (views.mailboxes name)) box ∙ sym (put.mails box));
   }
 
-  pub did_put : (name : BoxName) (root : ℕ) (shape : List Token) (n : Next) → n ≡ Puts name root shape (behind_at t old.world l) → HasPut t name root shape l old new act → IsDone (moved_by set s t n) new act
-  did_put name root shape n e put =
+  pub did_put : (name : BoxName) (root : ℕ) (shape : List Token) (n : Next) → n ≡ Puts name root shape (behind_at t old.world l) → is_full (mail_of old.mailboxes name) ≡ false → HasPut t name root shape l old new act → IsDone (moved_by set s t n) new act
+  did_put name root shape n e room put =
       by_next n _ e
-      (subst (λ (z : Bool). IsDone (cond z (acted (with_lone s t (ended (behind_at t old.world l) cause.Full)) (End cause.Full)) (puts (with_lone s t (behind_at t old.world l)) name root shape)) new act) (sym (not_full name)) (put_into name root shape put))
+      (subst (λ (z : Bool). IsDone (cond z (acted (with_lone s t (ended (behind_at t old.world l) cause.Full)) (End cause.Full)) (puts (with_lone s t (behind_at t old.world l)) name root shape)) new act) (sym (full_as name false room)) (put_into name root shape put))
+
+  pub did_put_wait : (name : BoxName) (root : ℕ) (shape : List Token) (n : Next) → n ≡ PutWaits name root shape (behind_at t old.world l) → is_full (mail_of old.mailboxes name) ≡ false → HasPut t name root shape l old new act → IsDone (moved_by set s t n) new act
+  did_put_wait name root shape n e room put =
+      by_next n _ e (subst (λ (z : Bool). IsDone (cond z (quiet s) (puts (with_lone s t (behind_at t old.world l)) name root shape)) new act) (sym (full_as name false room)) (put_into name root shape put))
+
+  pub did_bound : (name : BoxName) (most : ℕ) (n : Next) → n ≡ Bounds name most (behind_at t old.world l) → HasBounded t name most l old new act → IsDone (moved_by set s t n) new act
+  did_bound name most n e is = by_next n _ e record {
+    told = some_act _ is.told;
+    views =
+        with_mails new.world new.tasks.items old.mailboxes new.mailboxes (with_lone s t (behind_at t old.world l)) (with_mailbox s.mailboxes name (bounded (s.mailboxes name) most))
+        (in_world old.world new.world new.tasks.items old.mailboxes (with_lone s t (behind_at t old.world l)) is.world (stood_views t old.world old.tasks.items old.mailboxes l s views (behind_in l) new.tasks.items is.stands))
+        (λ box. mailed s.mailboxes (mail_of old.mailboxes) name (bounded (s.mailboxes name) most) (bounded (mail_of old.mailboxes name) most) views.mailboxes (ap (λ (m : Mailbox ℕ). bounded m most) (views.mailboxes name)) box ∙ sym (is.mails box));
+  }
 
   pub did_print : (token : Token) (shape : List Token) (n : Next) → shape ≡ token ∷ [] → n ≡ Prints token (behind_at t old.world l) → HasPrinted t shape l old new act → IsDone (moved_by set s t n) new act
   did_print token shape n is e printed = by_next n _ e record {
@@ -161,3 +168,9 @@ module _ (set : Setting) (t : ℕ) (old : Machine) (l : Live) (s : State) (views
       by_next n _ e
       (subst (λ (z : Bool). IsDone (cond z (starts_with s shape (with_lone s t (behind_at t old.world l)) (execute_frames set.program old.world.heap root)) (acted (with_lone s t (ended (behind_at t old.world l) cause.Tasks)) (End cause.Tasks))) new act) (sym (many_tasks le))
       record { told = some_act _ over.told; views = ended_views cause.Tasks over })
+
+  pub did_put_full : (name : BoxName) (root : ℕ) (shape : List Token) (n : Next) → n ≡ Puts name root shape (behind_at t old.world l) → is_full (mail_of old.mailboxes name) ≡ true → HasEnded t cause.Full old new act → IsDone (moved_by set s t n) new act
+  did_put_full name root shape n e full over =
+      by_next n _ e
+      (subst (λ (z : Bool). IsDone (cond z (acted (with_lone s t (ended (behind_at t old.world l) cause.Full)) (End cause.Full)) (puts (with_lone s t (behind_at t old.world l)) name root shape)) new act) (sym (full_as name true full))
+      record { told = some_act _ over.told; views = ended_views cause.Full over })

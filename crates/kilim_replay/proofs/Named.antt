@@ -71,8 +71,8 @@ written m n name c mail updates is box =
     ∙ (ap (λ b. mail_in (cond b (Some c) (at m box))) (key_is name box)
     ∙ (chosen (same_box box name) c (at m box) ∙ ap (λ x. cond (same_box box name) x (mails m box)) is))
 
-pub mail_is : (c : Post) (n : ℕ) (queue : List (ℕ × ℕ)) → c.puts ≡ n → c.queue.items ≡ queue → mail_in (Some c) ≡ record { most = None; puts = n; queue = queue }
-mail_is c n queue e f = λ i. record { most = None; puts = e i; queue = f i }
+pub mail_is : (c : Post) (most : Option ℕ) (n : ℕ) (queue : List (ℕ × ℕ)) → c.most ≡ most → c.puts ≡ n → c.queue.items ≡ queue → mail_in (Some c) ≡ record { most = most; puts = n; queue = queue }
+mail_is c most n queue d e f = λ i. record { most = d i; puts = e i; queue = f i }
 
 pub any_some : {A : Type 0} (o : Option A) (T : Type 0) → T → IfSome o (λ _. T)
 any_some None T t = tt
@@ -92,6 +92,6 @@ pub same_if_none : (o : Option (ℕ × ℕ)) (old new : List (ℕ × ℕ)) (T : 
 same_if_none None old new T m f = f (m.1 ∙ sym m.0)
 same_if_none (Some x) old new T m f = tt
 
-pub on_ok : {A E : Type 0} (r : Result A E) (P Q R : Type 0) → OnOk r P → OnOk r Q → (P → Q → R) → OnOk r R
-on_ok (Ok a) P Q R p q f = f p q
-on_ok (Err e) P Q R p q f = tt
+pub on_three : {A E : Type 0} (r : Result A E) (P Q S R : Type 0) → OnOk r P → OnOk r Q → OnOk r S → (P → Q → S → R) → OnOk r R
+on_three (Ok a) P Q S R p q s f = f p q s
+on_three (Err e) P Q S R p q s f = tt

@@ -1,18 +1,19 @@
 -- What an entry's task does next, as an action of the shared machine.
-use Rattle.std.proofs.Common.{◌≡◌, ◌<◌, ◌+◌, ◌^◌, ℕ, Bool, true, false, cond, List, [], ◌∷◌, Option, Some, None, length, refl, sym, ap, subst, ◌∙◌, arith}
+use Rattle.std.proofs.lemmas.Bool.Decides.{nat_tests}
+use Rattle.std.proofs.Common.{◌≡◌, ◌<◌, ◌+◌, ◌^◌, ℕ, suc, Bool, true, false, cond, List, [], ◌∷◌, Option, Some, None, length, refl, sym, ap, subst, ◌∙◌, arith}
 use Rattle.std.specs.Prelude.{◌==◌, is_some, nat_lt, slice_get, slice_set}
-use Rattle.std.proofs.lemmas.Bool.{eqb-true}
 use Rattle.kilim_lemmas.proofs.Lists.{set_there}
 use Rattle.kilim_program.specs.declared.names.BoxName.{BoxName}
 use Rattle.kilim_run_state.specs.Machine.{Activation}
+use Rattle.kilim_run_state.specs.declared.cause.EndCause.{EndCause}
 use Rattle.kilim_run_state.specs.declared.cause.EndCause.TheVariants as cause
 use Rattle.kilim_run_journal.specs.declared.entry.Act.{Act}
 use Rattle.kilim_run_journal.specs.declared.entry.Act.TheVariants as an_act
 use Rattle.kilim_run_journal.specs.Readable.{is_readable_act}
-use Rattle.kilim_run_model.specs.State.{Setting, State, execute_frames, is_full, noted}
-use Rattle.kilim_run_model.specs.Lone.{Lone, Next, Gets, Ends, ended, get_at, next_move}
-use Rattle.kilim_run_model.specs.Turn.{Moved, acted, gets, lone_of, moved, moved_by, probes, puts, starts_with, task_limit, with_lone}
-use Rattle.kilim_run_model.specs.Runs.{acted_or, acted_within, before_action, if_waits, where_empty}
+use Rattle.kilim_run_model.specs.State.{Mailbox, Setting, State, execute_frames, is_full, noted}
+use Rattle.kilim_run_model.specs.Lone.{Lone, Next, Ends, ended, get_at, next_move}
+use Rattle.kilim_run_model.specs.Turn.{Moved, acted, gets, lone_of, moved, moved_by, probes, puts, quiet, starts_with, task_limit, with_lone}
+use Rattle.kilim_run_model.specs.Runs.{acted_or, acted_within, before_action, if_waits, where_empty, where_full}
 use Rattle.kilim_run_model.specs.Course.{Quiet}
 use Rattle.kilim_run_model.specs.declared.waits.Waits.{Waits}
 use Rattle.kilim_run_model.specs.declared.waits.Waits.TheVariants as wait
@@ -61,6 +62,17 @@ readable_by n t w l (came.Puts box root shape) set s m act can is done = filled 
     filled : (z : Bool) → (cond z (acted (with_lone s t (ended (behind_at t w l) cause.Full)) (an_act.End cause.Full)) (puts (with_lone s t (behind_at t w l)) box root shape)).act ≡ Some act → is_readable_act act ≡ true
     filled true e = subst (λ (x : Act). is_readable_act x ≡ true) (some_is _ act e) refl
     filled false e = subst (λ (x : Act). is_readable_act x ≡ true) (some_is _ act e) (subst CanRead is can)
+readable_by n t w l (came.PutsWaiting box root shape) set s m act can is done = waited (is_full (s.mailboxes box)) (subst (λ (x : Next). (moved_by set s t x).act ≡ Some act) is done.told)
+  where
+    waited : (z : Bool) → (cond z (quiet s) (puts (with_lone s t (behind_at t w l)) box root shape)).act ≡ Some act → is_readable_act act ≡ true
+    waited true e = absurd (cc)
+    waited false e = subst (λ (x : Act). is_readable_act x ≡ true) (some_is _ act e) (subst CanRead is can)
+readable_by n t w l (came.TooLarge box root) set s m act can is done =
+    let a : Some (an_act.End cause.Large) ≡ Some act = subst (λ (x : Next). (moved_by set s t x).act ≡ Some act) is done.told in
+    subst (λ (x : Act). is_readable_act x ≡ true) (some_is _ act a) refl
+readable_by n t w l (came.Bounds box most) set s m act can is done =
+    let a : Some (an_act.Bound box most) ≡ Some act = subst (λ (x : Next). (moved_by set s t x).act ≡ Some act) is done.told in
+    subst (λ (x : Act). is_readable_act x ≡ true) (some_is _ act a) refl
 readable_by n t w l (came.Takes box) set s m act can is done = took (s.mailboxes box).queue (subst (λ (x : Next). (moved_by set s t x).act ≡ Some act) is done.told)
   where
     took : (q : List (ℕ × ℕ)) → (gets s t box (behind_at t w l) q).act ≡ Some act → is_readable_act act ≡ true
@@ -83,6 +95,51 @@ readable_by n t w l (came.Prints shape) set s m act can is done =
 readable_by n t w l (came.Ends why) set s m act can is done =
     let a : Some (an_act.End why) ≡ Some act = subst (λ (x : Next). (moved_by set s t x).act ≡ Some act) is done.told in
     subst (λ (x : Act). is_readable_act x ≡ true) (some_is _ act a) refl
+
+-- what a task that comes to that may have to wait for
+abbrev pub wait_of : Came → Option Waits
+wait_of (came.Takes box) = Some (wait.Take box)
+wait_of (came.PutsWaiting box root shape) = Some (wait.Put box)
+wait_of c = None
+
+pub next_get : (t : ℕ) (w : World) (l : Live) (c : Came) (n : Next) → IsNextOf t w l c n → get_at n ≡ wait_of c
+next_get t w l came.On n is = absurd is
+next_get t w l (came.Puts box root shape) n is = ap get_at is
+next_get t w l (came.PutsWaiting box root shape) n is = ap get_at is
+next_get t w l (came.TooLarge box root) n is = ap get_at is
+next_get t w l (came.Bounds box most) n is = ap get_at is
+next_get t w l (came.Takes box) n is = ap get_at is
+next_get t w l (came.Probes box) n is = ap get_at is
+next_get t w l (came.Starts root shape) n is = ap get_at is
+next_get t w l (came.Prints shape) n is = ap get_at is.2
+next_get t w l (came.Ends why) n is = ap get_at is
+
+where_none : (q : List (ℕ × ℕ)) (box : BoxName) → is_some (where_empty q box) ≡ (length q == 0)
+where_none [] box = refl
+where_none (x ∷ xs) box = sym (not_zero (length xs))
+  where
+    not_zero : (n : ℕ) → (suc n == 0) ≡ false
+    not_zero n = grind (arith, nat_tests)
+
+where_filled : (m : Mailbox ℕ) (box : BoxName) → is_some (where_full m box) ≡ is_full m
+where_filled m box = by (is_full m)
+  where
+    by : (z : Bool) → is_some (cond z (Some box) None) ≡ z
+    by true = refl
+    by false = refl
+
+-- it waits exactly where the mailbox is so
+pub waits_as : (boxes : Mailboxes) (c : Came) (x : State) → ((box : BoxName) → x.mailboxes box ≡ mail_of boxes box) → is_some (if_waits x (wait_of c)) ≡ waits_with boxes c
+waits_as boxes (came.Takes box) x same = where_none (x.mailboxes box).queue box ∙ ap (λ (m : Mailbox ℕ). length m.queue == 0) (same box)
+waits_as boxes (came.PutsWaiting box root shape) x same = where_filled (x.mailboxes box) box ∙ ap (λ (m : Mailbox ℕ). is_full m) (same box)
+waits_as boxes came.On x same = refl
+waits_as boxes (came.Puts box root shape) x same = refl
+waits_as boxes (came.TooLarge box root) x same = refl
+waits_as boxes (came.Bounds box most) x same = refl
+waits_as boxes (came.Probes box) x same = refl
+waits_as boxes (came.Starts root shape) x same = refl
+waits_as boxes (came.Prints shape) x same = refl
+waits_as boxes (came.Ends why) x same = refl
 
 module _ (set : Setting) (t : ℕ) (w : World) (tasks : List Task) (boxes : Mailboxes) (l : Live) (s : State) (run : IsTypedRun set s) (views : Views w (slice_set tasks t (a_task.Live l)) boxes s) (lt : t < length tasks) where
   pub at : slice_get s.threads t ≡ Some (thread_in l)
@@ -115,21 +172,27 @@ module _ (set : Setting) (t : ℕ) (w : World) (tasks : List Task) (boxes : Mail
   stood : (w' : World) (l' : Live) (c : Came) (n : Next) → Stood set t (lone_at t w l) w' l' n → IsNextOf t w' l' c n → NextAt w' l' c
   stood w' l' c n st is = record { lone = lone_at t w' l'; quiet = st.quiet; next = n; does = st.does; is = is; moves = refl }
 
+  ends : (w' : World) (l' : Live) (c : Came) (mid : Lone) → Quiet set t (lone_at t w l) mid → (why : EndCause) → next_move set t mid ≡ Ends why (ended_at w' why) → IsNextOf t w' l' c (Ends why (ended_at w' why)) → NextAt w' l' c
+  ends w' l' c mid quiet why does is = record {
+    lone = mid;
+    quiet = quiet;
+    next = Ends why (ended_at w' why);
+    does = does;
+    is = is;
+    moves = ap (λ (x : State). record { state = x; act = Some (an_act.End why) }) (state_twice set s t mid (ended_at w' why) ∙ sym (state_twice set s t (lone_at t w' l') (ended_at w' why)));
+  }
+
   pub next_at : (w' : World) (l' : Live) (c : Came) → Reaches set t (lone_at t w l) l.done w' l' c → IsComing c → NextAt w' l' c
   next_at w' l' came.On r coming = absurd coming
   next_at w' l' (came.Puts box root shape) r coming = stood w' l' (came.Puts box root shape) _ r refl
+  next_at w' l' (came.PutsWaiting box root shape) r coming = stood w' l' (came.PutsWaiting box root shape) _ r.0 refl
+  next_at w' l' (came.TooLarge box root) r coming = ends w' l' (came.TooLarge box root) r.mid r.quiet cause.Large r.does refl
+  next_at w' l' (came.Bounds box most) r coming = stood w' l' (came.Bounds box most) _ r refl
   next_at w' l' (came.Takes box) r coming = stood w' l' (came.Takes box) _ r refl
   next_at w' l' (came.Probes box) r coming = stood w' l' (came.Probes box) _ r refl
   next_at w' l' (came.Starts root shape) r coming = stood w' l' (came.Starts root shape) _ r refl
   next_at w' l' (came.Prints shape) r coming = stood w' l' (came.Prints shape) _ r.2 (r.0, r.1, refl)
-  next_at w' l' (came.Ends why) r coming = record {
-    lone = r.mid;
-    quiet = r.quiet;
-    next = Ends why (ended_at w' why);
-    does = r.does;
-    is = refl;
-    moves = ap (λ (x : State). record { state = x; act = Some (an_act.End why) }) (state_twice set s t r.mid (ended_at w' why) ∙ sym (state_twice set s t (lone_at t w' l') (ended_at w' why)));
-  }
+  next_at w' l' (came.Ends why) r coming = ends w' l' (came.Ends why) r.mid r.quiet why r.does refl
 
   -- ---- the action
 
@@ -167,41 +230,21 @@ module _ (set : Setting) (t : ℕ) (w : World) (tasks : List Task) (boxes : Mail
 
     -- ---- a task that has to wait
 
-    pub waits : (box : BoxName) → c ≡ came.Takes box → (mail_of boxes box).queue ≡ [] → (k : ℕ) × (is_waiting set (before_action set k s t) t ≡ true)
-    waits box e none =
+    pub waits : waits_with boxes c ≡ true → (k : ℕ) × (is_waiting set (before_action set k s t) t ≡ true)
+    waits e =
         let leads = leads_to n.lone n.quiet in
-        let is : n.next ≡ Gets box (behind_at t w' l') = subst (λ (x : Came). IsNextOf t w' l' x n.next) e n.is in
-        let queue : (s.mailboxes box).queue ≡ [] = ap (λ m. m.queue) (views.mailboxes box) ∙ none in
-        let standing : get_at (next_move set t (lone_of (with_lone s t n.lone) t n.lone.thread)) ≡ Some (wait.Take box) = ap (λ (x : Lone). get_at (next_move set t x)) leads.stands ∙ ap get_at (n.does ∙ is) in
+        let standing : get_at (next_move set t (lone_of (with_lone s t n.lone) t n.lone.thread)) ≡ wait_of c = ap (λ (x : Lone). get_at (next_move set t x)) leads.stands ∙ (ap get_at n.does ∙ next_get t w' l' c n.next n.is) in
         let there : slice_get (with_lone s t n.lone).threads t ≡ Some n.lone.thread = set_there s.threads t (thread_in l) n.lone.thread at in (
           more leads.moves 0,
           ap (λ (x : State). is_waiting set x t) (leads.before 0 ∙ before_none set t (with_lone s t n.lone))
               ∙ (ap (is_waiting_thread set (with_lone s t n.lone) t) there
-              ∙ (ap (λ (o : Option Waits). is_some (if_waits (with_lone s t n.lone) o)) standing ∙ ap (λ q. is_some (where_empty q box)) queue)),
+              ∙ (ap (λ (o : Option Waits). is_some (if_waits (with_lone s t n.lone) o)) standing ∙ (waits_as boxes c (with_lone s t n.lone) views.mailboxes ∙ e))),
         )
 
--- ---- whether it has to wait
-
-pub empty_by : (q : List (ℕ × ℕ)) → (length q == 0) ≡ true → q ≡ []
-empty_by [] e = refl
-empty_by (x ∷ xs) e = absurd (let z = eqb-true (length (x ∷ xs)) 0 e in omega (arith, z))
+-- ---- what can be done
 
 full_by : (q : List (ℕ × ℕ)) → (length q == 0) ≡ false → q ≡ [] → ⊥
 full_by q e is = absurd (let z = ap (λ (p : List (ℕ × ℕ)). length p == 0) (sym is) ∙ e in cc)
-
-pub record Waiting (boxes : Mailboxes) (c : Came) : Type 0 where
-  pub box : BoxName
-  pub is : c ≡ came.Takes box
-  pub empty : (mail_of boxes box).queue ≡ []
-
-pub has_waits : (boxes : Mailboxes) (c : Came) → waits_with boxes c ≡ true → Waiting boxes c
-has_waits boxes (came.Takes box) e = record { box = box; is = refl; empty = empty_by (mail_of boxes box).queue e }
-has_waits boxes came.On e = absurd (cc)
-has_waits boxes (came.Puts box root shape) e = absurd (cc)
-has_waits boxes (came.Probes box) e = absurd (cc)
-has_waits boxes (came.Starts root shape) e = absurd (cc)
-has_waits boxes (came.Prints shape) e = absurd (cc)
-has_waits boxes (came.Ends why) e = absurd (cc)
 
 counts : (done steps : ℕ) → done < steps → steps < 2 ^ 64 → done + 1 < 2 ^ 64
 counts done steps few fits = omega (arith, few, fits)
@@ -209,6 +252,9 @@ counts done steps few fits = omega (arith, few, fits)
 pub can_do : (set : Setting) (t : ℕ) (first : Lone) (done : ℕ) (w : World) (l : Live) (c : Came) (boxes : Mailboxes) → Reaches set t first done w l c → IsComing c → waits_with boxes c ≡ false → set.limits.steps < 2 ^ 64 → CanDo boxes l.done c
 can_do set t first done w l came.On boxes r coming other fits = coming
 can_do set t first done w l (came.Puts box root shape) boxes r coming other fits = counts l.done set.limits.steps r.few fits
+can_do set t first done w l (came.PutsWaiting box root shape) boxes r coming other fits = (other, counts l.done set.limits.steps r.0.few fits)
+can_do set t first done w l (came.TooLarge box root) boxes r coming other fits = tt
+can_do set t first done w l (came.Bounds box most) boxes r coming other fits = counts l.done set.limits.steps r.few fits
 can_do set t first done w l (came.Takes box) boxes r coming other fits = (full_by (mail_of boxes box).queue other, counts l.done set.limits.steps r.few fits)
 can_do set t first done w l (came.Probes box) boxes r coming other fits = counts l.done set.limits.steps r.few fits
 can_do set t first done w l (came.Starts root shape) boxes r coming other fits = counts l.done set.limits.steps r.few fits

@@ -3,7 +3,7 @@ use Rattle.std.specs.Prelude.{◌≡◌, ◌≢◌, ◌+◌, ◌==◌, ℕ, Bool
 use Rattle.kilim_run_state.specs.declared.cause.EndCause.{EndCause}
 use Rattle.kilim_run_journal.specs.declared.entry.Entry.{Entry}
 use Rattle.kilim_run_journal.specs.Readable.{is_readable_act}
-use Rattle.kilim_run_model.specs.State.{Setting, State, Ended, first_state}
+use Rattle.kilim_run_model.specs.State.{Setting, State, Ended, first_state, is_full}
 use Rattle.kilim_run_model.specs.Runs.{Replays, acted_within, before_action}
 use Rattle.kilim_replay_laws.specs.Verdicts.{FaultAt, is_waiting}
 use Rattle.kilim_replay_laws.specs.declared.verdict.Verdict.{Verdict}
@@ -17,9 +17,10 @@ use Rattle.kilim_replay.specs.declared.fold.Step.TheVariants as step
 use Rattle.kilim_replay.specs.declared.machine.Machine.{Machine}
 use Rattle.kilim_replay.specs.declared.mailboxes.Mailboxes.{Mailboxes}
 
--- a task that comes to a `get` on an empty mailbox has to wait
+-- a task that comes to a `get` on an empty mailbox has to wait, or to a put that waits on a full one
 abbrev pub waits_with : Mailboxes → Came → Bool
 waits_with boxes (came.Takes box) = length (mail_of boxes box).queue == 0
+waits_with boxes (came.PutsWaiting box root shape) = is_full (mail_of boxes box)
 waits_with boxes c = false
 
 -- the entry is the next action of its task, and leads to a state

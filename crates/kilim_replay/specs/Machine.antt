@@ -1,15 +1,16 @@
 -- A state of a replay, as a state of the shared machine.
-use Rattle.std.specs.Prelude.{◌≡◌, ◌<◌, ◌+◌, ◌^◌, ◌==◌, ℕ, if◌then◌else◌, List, [], ◌∷◌, ◌++◌, Option, Some, None, length, map, slice_set}
+use Rattle.std.specs.Prelude.{◌≡◌, ◌<◌, ◌+◌, ◌^◌, ◌==◌, ℕ, false, if◌then◌else◌, List, [], ◌∷◌, ◌++◌, Option, Some, None, length, map, slice_set}
 use Rattle.std.specs.List.{AllByRecursion}
 use Rattle.kilim_program.specs.Program.{Program}
 use Rattle.kilim_program.specs.declared.names.BoxName.{BoxName}
 use Rattle.kilim_program.specs.declared.value.Value.TheVariants.{Null, Ref}
 use Rattle.kilim_run_state.specs.declared.cause.EndCause.{EndCause}
+use Rattle.kilim_run_state.specs.declared.cause.EndCause.TheVariants.{Large}
 use Rattle.kilim_run_state.specs.declared.value.Token.{Token}
 use Rattle.kilim_run_journal.specs.declared.entry.Act.{Act}
-use Rattle.kilim_run_journal.specs.declared.entry.Act.TheVariants.{Put, Take, Empty, Start, Print, End}
-use Rattle.kilim_run_model.specs.State.{Setting, State, Thread, Ended, execute_frames, with_mailbox, with_message, with_queue}
-use Rattle.kilim_run_model.specs.Lone.{Next, Puts, Gets, Probes, Starts, Prints, Ends, pushed_on}
+use Rattle.kilim_run_journal.specs.declared.entry.Act.TheVariants.{Put, Take, Empty, Start, Print, End, Bound}
+use Rattle.kilim_run_model.specs.State.{Setting, State, Thread, Ended, execute_frames, bounded, is_full, with_mailbox, with_message, with_queue}
+use Rattle.kilim_run_model.specs.Lone.{Next, Puts, PutWaits, Bounds, Gets, Probes, Starts, Prints, Ends, pushed_on}
 use Rattle.kilim_run_model.specs.Turn.{Moved}
 use Rattle.kilim_replay_laws.specs.shared.Runs.{IsTypedRun}
 use Rattle.kilim_replay_thread.specs.Live.{RoomyIn, behind_at, behind_in, calls_in, ended_at, thread_in}
@@ -57,6 +58,13 @@ pub record HasPut (t : ℕ) (name : BoxName) (root : ℕ) (shape : List Token) (
   pub stands : StandsAt t (behind_in live) old.tasks.items new.tasks.items
   pub mails : SameMails (with_mailbox (mail_of old.mailboxes) name (with_message (mail_of old.mailboxes name) root)) (mail_of new.mailboxes)
   pub told : act ≡ Put name (mail_of old.mailboxes name).puts shape
+
+-- a mailbox got a bound
+pub record HasBounded (t : ℕ) (name : BoxName) (most : ℕ) (live : ALive) (old new : Machine) (act : Act) : Type 0 where
+  pub world : new.world ≡ old.world
+  pub stands : StandsAt t (behind_in live) old.tasks.items new.tasks.items
+  pub mails : SameMails (with_mailbox (mail_of old.mailboxes) name (bounded (mail_of old.mailboxes name) most)) (mail_of new.mailboxes)
+  pub told : act ≡ Bound name most
 
 -- the first message of the mailbox was taken, and is on top of the stack
 pub record HasTaken (t : ℕ) (name : BoxName) (live : ALive) (old new : Machine) (act : Act) : Type 0 where
@@ -112,16 +120,21 @@ pub record HasEnded (t : ℕ) (cause : EndCause) (old new : Machine) (act : Act)
 abbrev pub IsNextOf : ℕ → World → ALive → Came → Next → Type 0
 IsNextOf t w l came.On n = ⊥
 IsNextOf t w l (came.Puts box root shape) n = n ≡ Puts box root shape (behind_at t w l)
+IsNextOf t w l (came.PutsWaiting box root shape) n = n ≡ PutWaits box root shape (behind_at t w l)
+IsNextOf t w l (came.TooLarge box root) n = n ≡ Ends Large (ended_at w Large)
+IsNextOf t w l (came.Bounds box most) n = n ≡ Bounds box most (behind_at t w l)
 IsNextOf t w l (came.Takes box) n = n ≡ Gets box (behind_at t w l)
 IsNextOf t w l (came.Probes box) n = n ≡ Probes box (behind_at t w l)
 IsNextOf t w l (came.Starts root shape) n = n ≡ Starts root shape (behind_at t w l)
 IsNextOf t w l (came.Prints shape) n = (token : Token) × (shape ≡ token ∷ []) × (n ≡ Prints token (behind_at t w l))
 IsNextOf t w l (came.Ends why) n = n ≡ Ends why (ended_at w why)
 
--- it can be done: a message is there that is taken, and the instruction can be counted
+-- it can be done: a message is there that is taken, there is room where a put waits, and the instruction can be counted
 abbrev pub CanDo : Mailboxes → ℕ → Came → Type 0
 CanDo boxes done came.On = ⊥
 CanDo boxes done (came.Takes box) = ((mail_of boxes box).queue ≡ [] → ⊥) × (done + 1 < 2 ^ 64)
+CanDo boxes done (came.PutsWaiting box root shape) = (is_full (mail_of boxes box) ≡ false) × (done + 1 < 2 ^ 64)
+CanDo boxes done (came.TooLarge box root) = Unit {0}
 CanDo boxes done (came.Ends why) = Unit {0}
 CanDo boxes done c = done + 1 < 2 ^ 64
 

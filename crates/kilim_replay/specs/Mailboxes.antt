@@ -15,10 +15,10 @@ key_cmp a b = ordering_then (nat_cmp a.0 b.0) (nat_cmp a.1 b.1)
 abbrev pub named : Mailboxes → BoxName → Option Post
 named m box = get key_cmp m.by_name (box.task, box.number)
 
--- a mailbox into which nothing was put is empty; none has a bound
+-- a mailbox that isn't listed is empty, and has no bound
 abbrev pub mail_in : Option Post → Mailbox ℕ
 mail_in None = empty_mailbox
-mail_in (Some post) = record { most = None; puts = post.puts; queue = post.queue.items }
+mail_in (Some post) = record { most = post.most; puts = post.puts; queue = post.queue.items }
 
 abbrev pub mail_of : Mailboxes → BoxName → Mailbox ℕ
 mail_of m box = mail_in (named m box)

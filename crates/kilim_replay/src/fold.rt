@@ -43,6 +43,7 @@ pub fn has_to_wait(came: &Came, mailboxes: &Mailboxes) -> bool
 {
     match came {
         Came::Takes(name) => mailboxes.is_empty(*name),
+        Came::PutsWaiting(name, _, _) => mailboxes.is_full(*name),
         _ => false,
     }
 }

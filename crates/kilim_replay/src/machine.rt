@@ -8,7 +8,7 @@ ghost use Rattle.kilim_run_state.specs.Words.{IsThere};
 ghost use Rattle.kilim_replay_thread.specs.Comes.{HasRoomFor};
 ghost use Rattle.kilim_replay_thread.specs.Live.{HasFrames, RoomIn, RoomyIn, behind_in, calls_in};
 ghost use Rattle.kilim_replay.specs.Mailboxes.{mail_of};
-ghost use Rattle.kilim_replay.specs.Machine.{AreRoomyTasks, CanDo, HasEnded, HasFoundNone, HasPrinted, HasPut, HasStarted, HasTaken, IsDone, IsNextOf, StandsAt, Views};
+ghost use Rattle.kilim_replay.specs.Machine.{AreRoomyTasks, CanDo, HasBounded, HasEnded, HasFoundNone, HasPrinted, HasPut, HasStarted, HasTaken, IsDone, IsNextOf, StandsAt, Views};
 ghost use Rattle.kilim_replay.specs.declared.machine.Task.TheVariants as a_task;
 
 use crate::mailboxes::Mailboxes;
@@ -106,6 +106,30 @@ fn put(
     };
     pass(program, task, live, &mut machine.tasks);
     Ok(Act::Put(name, number, shape))
+}
+
+// A mailbox gets a bound.
+fn bound(
+    program: &Program,
+    task: u32,
+    name: BoxName,
+    most: u32,
+    live: Live,
+    machine: &mut Machine,
+) -> Result<Act, NoMemory>
+    requires task { task < length machine.old.tasks.items }
+    requires frames { HasFrames live.frames }
+    requires roomy { RoomyIn program.now live.frames }
+    requires counts { live.done + 1 < 2 ^ 64 }
+    requires all { AreRoomyTasks program.now machine.old.tasks.items }
+    ensures bounded { IfOk result (HasBounded task name most live machine.old machine.new) }
+    ensures all { OnOk result (AreRoomyTasks program.now machine.new.tasks.items) }
+{
+    let Ok(()) = machine.mailboxes.bound(name, most) else {
+        return Err(NoMemory);
+    };
+    pass(program, task, live, &mut machine.tasks);
+    Ok(Act::Bound(name, most))
 }
 
 // A message is taken out of a mailbox where one waits.
@@ -244,7 +268,18 @@ pub fn perform(
     ensures all { OnOk result (AreRoomyTasks program.now machine.new.tasks.items) }
 {
     match came {
-        Came::Puts(name, root, shape) => put(program, task, name, root, shape, live, machine),
+        Came::Puts(name, root, shape) => {
+            if machine.mailboxes.is_full(name) {
+                Ok(end(task, EndCause::Full, machine))
+            } else {
+                put(program, task, name, root, shape, live, machine)
+            }
+        }
+        Came::PutsWaiting(name, root, shape) => {
+            put(program, task, name, root, shape, live, machine)
+        }
+        Came::TooLarge(_, _) => Ok(end(task, EndCause::Large, machine)),
+        Came::Bounds(name, most) => bound(program, task, name, most, live, machine),
         Came::Takes(name) => Ok(receive(program, task, name, live, machine)),
         Came::Probes(name) => Ok(probe(program, task, name, live, machine)),
         Came::Starts(root, shape) => {

@@ -2,3 +2,4 @@ pub mod One
 pub mod Leads
 pub mod Samples
 pub mod Settling
+pub mod Waiting

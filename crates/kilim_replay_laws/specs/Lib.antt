@@ -1,4 +1,5 @@
 pub mod Verdicts
 pub mod Leads
+pub mod Waiting
 pub mod Samples
 pub mod shared

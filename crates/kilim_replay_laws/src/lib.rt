@@ -4,6 +4,7 @@
 ghost use Rattle.kilim_replay_laws.specs.Leads.{ThreadsLead};
 ghost use Rattle.kilim_replay_laws.specs.Samples.{Samples};
 ghost use Rattle.kilim_replay_laws.specs.Verdicts.{OneVerdict};
+ghost use Rattle.kilim_replay_laws.specs.Waiting.{WaitsAsk};
 
 pub mod shared;
 mod verdict;
@@ -23,4 +24,9 @@ pub fn threads_lead()
 /// A law, and no work: what is said of journals of the program that prints 7.
 pub fn samples_hold()
     ensures { Samples }
+{}
+
+/// A law, and no work: a thread that may have to wait stands at the call of `get` or of a put that waits, whatever the heap holds.
+pub fn waits_ask()
+    ensures { WaitsAsk }
 {}

@@ -1,5 +1,5 @@
 -- What is asked of a built-in method, and where a new mailbox or a return ends the task.
-use Rattle.std.proofs.Common.{◌≡◌, ◌≤◌, ◌<◌, ◌+◌, ℕ, Bool, true, false, cond, eqb, List, [], ◌∷◌, Option, Some, None, Result, refl, sym, ap, subst, ◌∙◌, arith}
+use Rattle.std.proofs.Common.{◌≡◌, ◌≤◌, ◌<◌, ◌+◌, ℕ, Bool, true, false, cond, eqb, List, [], ◌∷◌, Option, Some, None, Result, Ok, Err, refl, sym, ap, subst, ◌∙◌, arith}
 use Rattle.std.proofs.lemmas.Bool.Decides.{nat_tests}
 use Rattle.std.specs.Prelude.{nat_lt, IfOk}
 use Rattle.kilim_program.specs.Program.{Program}
@@ -19,12 +19,13 @@ use Rattle.kilim_run_model.specs.Lone.{Lone, Next, Goes, Ends, went, over, ended
 use Rattle.kilim_fiber_steps.specs.records.natives.Natives.{meaning}
 use Rattle.kilim_fiber_steps.specs.declared.records.natives.natives.Native.{Native}
 use Rattle.kilim_replay_laws.specs.shared.Shared.{HeapServes}
-use Rattle.kilim_replay_thread.specs.Comes.{CanAsk, CanShow, Comes, IsSame, IsShownValue}
+use Rattle.kilim_replay_thread.specs.Comes.{CanAsk, CanShow, Comes, IsOnOrEnd, IsPutWait, IsSame, IsShownValue, SuitsCall}
 use Rattle.kilim_replay_thread.specs.Live.{kept_for}
 use Rattle.kilim_replay_thread.specs.Operands.{AreCopies}
 use Rattle.kilim_replay_thread.specs.declared.operands.Operands.{Operands}
 use Rattle.kilim_replay_thread.specs.declared.operands.Operands.TheVariants as copied
 use Rattle.kilim_replay_thread.specs.declared.task.Came.{Came}
+use Rattle.kilim_replay_thread.specs.declared.task.Came.TheVariants as came
 use Rattle.kilim_replay_thread.specs.declared.task.Live.{Live}
 use Rattle.kilim_replay_thread.specs.declared.task.World.{World}
 
@@ -117,3 +118,15 @@ unchanged w l = record { world = refl; live = refl }
 
 pub shown_second : (p : Program) (h : Objects) (first second : Value) (box : BoxName) → first ≡ Box box → HeapServes p h → AreThere h (first ∷ second ∷ []) → IsShownValue p h second
 shown_second p h first second box e serves there = shown_value p h second [] serves (subst (λ (v : Value). AreThere h (v ∷ second ∷ [])) e there).1
+
+-- ---- which call it is
+
+pub suits_as : (r : Result Came NoMemory) (o o' : Option native.Native) (args args' : List Value) → o ≡ o' → args ≡ args' → IfOk r (SuitsCall o' args') → IfOk r (SuitsCall o args)
+suits_as r o o' args args' e f s = subst (λ (q : Option native.Native). IfOk r (SuitsCall q args)) (sym e) (subst (λ (vs : List Value). IfOk r (SuitsCall o' vs)) (sym f) s)
+
+-- what ends at a put that waits otherwise
+pub on_end : (box : BoxName) (message : Value) (r : Result Came NoMemory) → message ≡ Null → IfOk r IsOnOrEnd → IfOk r (IsPutWait box message)
+on_end box message (Ok came.On) e one = tt
+on_end box message (Ok (came.Ends why)) e one = e
+on_end box message (Ok c) e one = absurd one
+on_end box message (Err x) e one = tt

@@ -5,7 +5,8 @@ use Rattle.std.proofs.lemmas.Bool.{lt-leb}
 use Rattle.kilim_program.specs.declared.names.MethodId.{MethodId}
 use Rattle.kilim_program.specs.declared.names.ClassId.{ClassId}
 use Rattle.kilim_program.specs.declared.value.Value.{Value}
-use Rattle.kilim_program.specs.declared.value.Value.TheVariants.{Ref}
+use Rattle.kilim_program.specs.declared.names.BoxName.{BoxName}
+use Rattle.kilim_program.specs.declared.value.Value.TheVariants.{Ref, Box}
 use Rattle.kilim_run_state.specs.declared.frames.frames.Frames.{Frames}
 use Rattle.kilim_run_state.specs.declared.cause.EndCause.{EndCause}
 use Rattle.kilim_run_state.specs.declared.cause.EndCause.TheVariants as cause
@@ -13,19 +14,23 @@ use Rattle.kilim_run_state.specs.frames.Calls.{activation, answered, below_of}
 use Rattle.kilim_run_state.specs.Machine.{Activation, Objects}
 use Rattle.kilim_run_machine.specs.Moves.{Move, moves}
 use Rattle.kilim_run_machine.specs.Moves as move
-use Rattle.kilim_run_machine.specs.Natives.{native_of}
+use Rattle.kilim_run_machine.specs.Natives.{Native, native_of, PutWait}
 use Rattle.kilim_run_interp.specs.Step.{IsSame as SameFrames, StandsAt}
-use Rattle.kilim_run_model.specs.State.{Setting, Alive}
-use Rattle.kilim_run_model.specs.Lone.{Lone, Next, Goes, Ends, asks_next, finish_next, frames_next, next_by, next_move, opens_next, over, raises_of, thread_next, throws_by}
+use Rattle.kilim_run_model.specs.State.{Setting, Thread, Alive}
+use Rattle.kilim_run_model.specs.declared.waits.Waits.{Waits}
+use Rattle.kilim_run_model.specs.Lone.{Lone, Next, Goes, Ends, asks_next, finish_next, frames_next, get_at, next_by, next_move, opens_next, over, raises_of, thread_next, throws_by}
 use Rattle.kilim_run_machine.specs.Raising.{index_at, raised_class, thrown}
 use Rattle.kilim_run_model.specs.Course.{Quiet, Stays, Moves}
 use Rattle.kilim_fiber_spec.specs.fiber_kin.Served.{HasRoom, ResultFits}
 use Rattle.kilim_fiber_spec.proofs.fiber_kin.Fine.{opens_fit}
 use Rattle.kilim_replay_laws.specs.shared.Shared.{AskedAreThere, Serves}
 use Rattle.kilim_replay_laws.specs.shared.Runs.{CanGo}
+use Rattle.kilim_replay_laws.specs.Waiting.{AsksToWait, IsWaitCall, waits_call}
+use Rattle.kilim_replay_laws.proofs.Waiting.{not_asked, waits_ask}
+use Rattle.kilim_isolation_laws.proofs.at_rest.Stays.{moves_same}
 use Rattle.kilim_replay_thread.specs.Live.{HasFrames, RoomIn, RoomBehind, answered_in, behind_at, calls_in, ended_at, kept_for, lone_at, operands_in, operands_of, thread_in}
-use Rattle.kilim_replay_thread.specs.Comes.{CanAsk, Comes, HasRunOn, IsNear, IsOnOrEnd, IsSame}
-use Rattle.kilim_replay_thread.specs.Reach.{Ended, IsComing, Reaches, Stood, WentOn}
+use Rattle.kilim_replay_thread.specs.Comes.{CanAsk, Comes, HasRunOn, IsNear, IsOnOrEnd, IsOther, IsSame, SuitsCall}
+use Rattle.kilim_replay_thread.specs.Reach.{Ended, EndedLarge, IsComing, PutsThere, Reaches, Shares, Stood, WaitsNowhere, WentOn}
 use Rattle.kilim_replay_thread.specs.Thread.{HasRun, IsSafe, thread_on}
 use Rattle.kilim_replay_thread.specs.declared.runs.Halted.{Halted}
 use Rattle.kilim_replay_thread.specs.declared.task.Came.{Came}
@@ -35,6 +40,39 @@ use Rattle.kilim_replay_thread.specs.declared.task.World.{World}
 use Rattle.kilim_replay_thread.specs.Raises.{raised_at, thrown_at}
 use Rattle.kilim_replay_thread.proofs.Standing.{same_index, same_thrown}
 use Rattle.kilim_replay_thread.proofs.Steps.{runs_are_quiet}
+
+-- ---- where it ends, or comes to a put that waits
+
+abbrev pub SuitsAt : Setting → ℕ → World → Live → Came → Type 0
+SuitsAt set t w l (came.PutsWaiting box root shape) = PutsThere set (lone_at t w l).thread box root
+SuitsAt set t w l (came.TooLarge box root) = PutsThere set (lone_at t w l).thread box root
+SuitsAt set t w l (came.Ends why) = WaitsNowhere set t (lone_at t w l).thread
+SuitsAt set t w l c = Unit {0}
+
+pub suits_other : (set : Setting) (t : ℕ) (w : World) (l : Live) (c : Came) → IsOther c → WaitsNowhere set t (lone_at t w l).thread → SuitsAt set t w l c
+suits_other set t w l came.On other nowhere = tt
+suits_other set t w l (came.Puts box root shape) other nowhere = tt
+suits_other set t w l (came.PutsWaiting box root shape) other nowhere = absurd other
+suits_other set t w l (came.TooLarge box root) other nowhere = absurd other
+suits_other set t w l (came.Bounds box most) other nowhere = tt
+suits_other set t w l (came.Takes box) other nowhere = tt
+suits_other set t w l (came.Probes box) other nowhere = tt
+suits_other set t w l (came.Starts root shape) other nowhere = tt
+suits_other set t w l (came.Prints shape) other nowhere = tt
+suits_other set t w l (came.Ends why) other nowhere = nowhere
+
+pub suits_call : (set : Setting) (t : ℕ) (w : World) (l : Live) (o : Option Native) (args : List Value) (c : Came) → SuitsCall o args c → (waits_call o args ≡ false → WaitsNowhere set t (lone_at t w l).thread) →
+    ((box : BoxName) (root : ℕ) → o ≡ Some PutWait → args ≡ Box box ∷ Ref root ∷ [] → PutsThere set (lone_at t w l).thread box root) → SuitsAt set t w l c
+suits_call set t w l o args came.On suits other puts = tt
+suits_call set t w l o args (came.Puts box root shape) suits other puts = tt
+suits_call set t w l o args (came.PutsWaiting box root shape) suits other puts = puts box root suits.0 suits.1
+suits_call set t w l o args (came.TooLarge box root) suits other puts = puts box root suits.0 suits.1
+suits_call set t w l o args (came.Bounds box most) suits other puts = tt
+suits_call set t w l o args (came.Takes box) suits other puts = tt
+suits_call set t w l o args (came.Probes box) suits other puts = tt
+suits_call set t w l o args (came.Starts root shape) suits other puts = tt
+suits_call set t w l o args (came.Prints shape) suits other puts = tt
+suits_call set t w l o args (came.Ends why) suits other puts = other suits
 
 -- ---- moves without an action
 
@@ -67,11 +105,65 @@ module _ (set : Setting) (t : ℕ) where
       ap (λ (b : Bool). cond b (over (lone_at t w l) cause.Spent) (frames_next set t (lone_at t w l) (calls_in l.frames) l.done l.boxes)) (lt-leb set.limits.steps l.done lt)
       ∙ ap (λ (fs : List Activation). frames_next set t (lone_at t w l) fs l.done l.boxes) are
 
-  pub spent_now : (w : World) (l : Live) → set.limits.steps ≤ l.done → Ended set t (lone_at t w l) (Ends cause.Spent (ended_at w cause.Spent))
-  spent_now w l le = record { mid = lone_at t w l; quiet = Stays refl; does = spent_move w l le }
+  -- ---- where it may have to wait for nothing, whatever the heap holds
 
-  pub done_now : (w : World) (l : Live) → l.done < set.limits.steps → l.frames ≡ None → Ended set t (lone_at t w l) (Ends cause.Done (ended_at w cause.Done))
-  done_now w l lt none = record { mid = lone_at t w l; quiet = Stays refl; does = not_spent w l [] lt (ap calls_in none) }
+  nowhere_by : (th : Thread) → ((x : Lone) (w : Waits) → x.thread ≡ th → AsksToWait set w x → ⊥) → WaitsNowhere set t th
+  nowhere_by th never x same = by (get_at (next_move set t x)) refl
+    where
+      by : (o : Option Waits) → get_at (next_move set t x) ≡ o → o ≡ None
+      by None e = refl
+      by (Some w) e = absurd (never x w same (waits_ask set t x x w refl e))
+
+  same_alive : (a b : List Activation) (d e m n : ℕ) → Alive a d m ≡ Alive b e n → (a ≡ b) × (d ≡ e)
+  same_alive a b d e m n q = (cc, cc)
+
+  same_front : (a b : Activation) (as1 bs : List Activation) → a ∷ as1 ≡ b ∷ bs → (a ≡ b) × (as1 ≡ bs)
+  same_front a b as1 bs q = (cc, cc)
+
+  -- it has no instructions left
+  spent_nowhere : (frames : List Activation) (done boxes : ℕ) → set.limits.steps ≤ done → WaitsNowhere set t (Alive frames done boxes)
+  spent_nowhere frames done boxes le = nowhere_by (Alive frames done boxes) (λ x w same asks.
+      let e = (same_alive (asks.top ∷ asks.below) frames asks.done done asks.boxes boxes (sym asks.alive ∙ same)).1 in
+      let few = asks.few in
+      omega (arith, le, e, few))
+
+  done_nowhere : (done boxes : ℕ) → WaitsNowhere set t (Alive [] done boxes)
+  done_nowhere done boxes = nowhere_by (Alive [] done boxes) (λ x w same asks. let e = (same_alive (asks.top ∷ asks.below) [] asks.done done asks.boxes boxes (sym asks.alive ∙ same)).0 in cc)
+
+  -- its instruction is no such call
+  asked_there : (top : Activation) (below : List Activation) (done boxes : ℕ) (h : Objects) (next : ℕ) (kept : Option ℕ) →
+      ((m : MethodId) (args : List Value) (frames : List Activation) (w : Waits) → moves set.program top below h ≡ move.Asks m args frames h → IsWaitCall w (native_of set.program m) args → ⊥) →
+      (w : Waits) → AsksToWait set w (record { heap = h; next = next; thread = Alive (top ∷ below) done boxes; kept = kept }) → ⊥
+  asked_there top below done boxes h next kept never w asks =
+      let a = (same_alive (asks.top ∷ asks.below) (top ∷ below) asks.done done asks.boxes boxes (sym asks.alive)).0 in
+      let f = same_front asks.top top asks.below below a in
+      never asks.method asks.args asks.frames w ((λ i. moves set.program (sym f.0 i) (sym f.1 i) h) ∙ asks.asks) asks.calls
+
+  unasked : (top : Activation) (below : List Activation) (done boxes : ℕ) (h : Objects) → ((m : MethodId) (args : List Value) (frames : List Activation) (w : Waits) → moves set.program top below h ≡ move.Asks m args frames h → IsWaitCall w (native_of set.program m) args → ⊥) →
+      WaitsNowhere set t (Alive (top ∷ below) done boxes)
+  unasked top below done boxes h never x same = by (get_at (next_move set t x)) refl
+    where
+      by : (o : Option Waits) → get_at (next_move set t x) ≡ o → o ≡ None
+      by None e = refl
+      by (Some w) e = absurd (asked_there top below done boxes h x.next x.kept never w (waits_ask set t x (record { heap = h; next = x.next; thread = Alive (top ∷ below) done boxes; kept = x.kept }) w same e))
+
+  pub spent_now : (w : World) (l : Live) → set.limits.steps ≤ l.done → Ended set t (lone_at t w l) w cause.Spent
+  spent_now w l le = record {
+    mid = lone_at t w l;
+    quiet = Stays refl;
+    does = spent_move w l le;
+    shares = record { heap = refl; next = refl; kept = refl };
+    nowhere = spent_nowhere (calls_in l.frames) l.done l.boxes le;
+  }
+
+  pub done_now : (w : World) (l : Live) → l.done < set.limits.steps → l.frames ≡ None → Ended set t (lone_at t w l) w cause.Done
+  done_now w l lt none = record {
+    mid = lone_at t w l;
+    quiet = Stays refl;
+    does = not_spent w l [] lt (ap calls_in none);
+    shares = record { heap = refl; next = refl; kept = refl };
+    nowhere = subst (λ (o : Option Frames). WaitsNowhere set t (Alive (calls_in o) l.done l.boxes)) (sym none) (done_nowhere l.done l.boxes);
+  }
 
   pub safe_on : (w : World) (l : Live) → CanGo set t (lone_at t w l) → l.done < set.limits.steps → IsSafe set.program (set.limits.steps - l.done) (calls_in l.frames) w.heap w.next
   safe_on w l can lt n top below k after few runs =
@@ -80,11 +172,13 @@ module _ (set : Setting) (t : ℕ) where
       (can (thread_on k after (kept_for t w.kept) (top ∷ below) (l.done + n) l.boxes) (runs_are_quiet set t (calls_in l.frames) (top ∷ below) w.heap k w.next after n l.done l.boxes (kept_for t w.kept) runs left)).fine.steps top below (l.done + n) l.boxes refl less
 
   -- moves without an action led somewhere, and that is what the thread does next
-  pub record Led (first : Lone) (done : ℕ) (next : Next) : Type 0 where
+  pub record Led (first : Lone) (w : World) (done : ℕ) (next : Next) : Type 0 where
     pub mid : Lone
     pub quiet : Quiet set t first mid
     pub does : next_move set t mid ≡ next
     pub few : done < set.limits.steps
+    pub shares : Shares t mid w
+    pub nowhere : WaitsNowhere set t mid.thread
 
   -- ---- many instructions
 
@@ -157,6 +251,33 @@ module _ (set : Setting) (t : ℕ) where
       pub returns_at : moves set.program at.top at.below r.heap ≡ move.Returns r.heap → Stood set t (lone_at t w l) w' mid (finish_next set (lone_at t w' mid) mid.done mid.boxes (kept_for t w'.kept))
       returns_at e = record { quiet = to_mid; does = next_is (λ (x : Objects). move.Returns x) e; few = few_done }
 
+      -- a call that isn't one that may have to wait, and none
+      pub nowhere_at : ((m : MethodId) (args : List Value) (frames : List Activation) (w : Waits) → moves set.program at.top at.below r.heap ≡ move.Asks m args frames r.heap → IsWaitCall w (native_of set.program m) args → ⊥) → WaitsNowhere set t (lone_at t w' mid).thread
+      nowhere_at never = subst (WaitsNowhere set t) (sym alive_is) (unasked at.top at.below mid.done mid.boxes r.heap never)
+
+      same_asks : (m n : MethodId) (args brgs : List Value) (f g : List Activation) (x y : Objects) → move.Asks m args f x ≡ move.Asks n brgs g y → (m ≡ n) × (args ≡ brgs)
+      same_asks m n args brgs f g x y e = (cc, cc)
+
+      pub other_at : (id : MethodId) → moves set.program at.top at.below r.heap ≡ move.Asks id (operands_of ran.frames) (answered ran.frames) r.heap → waits_call (native_of set.program id) (operands_in mid.frames) ≡ false → WaitsNowhere set t (lone_at t w' mid).thread
+      other_at id e other = nowhere_at (λ m args frames w asks calls.
+          let same = same_asks m id args (operands_of ran.frames) frames (answered ran.frames) r.heap r.heap (sym asks ∙ e) in
+          let args-same : args ≡ operands_in mid.frames = same.1 ∙ sym (ap operands_in ran.are) in
+          not_asked w (native_of set.program id) (operands_in mid.frames) other (subst (λ (vs : List Value). IsWaitCall w (native_of set.program id) vs) args-same (subst (λ (k : MethodId). IsWaitCall w (native_of set.program k) args) same.0 calls)))
+
+      pub puts_at : (id : MethodId) (box : BoxName) (root : ℕ) → moves set.program at.top at.below r.heap ≡ move.Asks id (operands_of ran.frames) (answered ran.frames) r.heap → native_of set.program id ≡ Some PutWait → operands_in mid.frames ≡ Box box ∷ Ref root ∷ [] → PutsThere set (lone_at t w' mid).thread box root
+      puts_at id box root e native args = record {
+        top = at.top;
+        below = at.below;
+        done = mid.done;
+        boxes = mid.boxes;
+        alive = alive_is;
+        few = few_done;
+        method = id;
+        native = native;
+        frames = answered ran.frames;
+        asks = λ h. moves_same set.program at.top at.below r.heap h id box (Ref root ∷ []) (answered ran.frames) r.heap (e ∙ ap (λ (vs : List Value). move.Asks id vs (answered ran.frames) r.heap) (sym (ap operands_in ran.are) ∙ args));
+      }
+
       -- a built-in method
       has_room : (fs : List Activation) (g : Activation) (gs : List Activation) → fs ≡ g ∷ gs → HasRoom set fs → HasRoom set (g ∷ gs)
       has_room fs g gs e room = subst (HasRoom set) e room
@@ -190,9 +311,18 @@ module _ (set : Setting) (t : ℕ) where
         ∙ ap (λ (fs : List Activation). frames_next set t there fs (l.done + ran.steps) l.boxes) are
 
     -- an instruction ends it
-    pub ends_at : (top : Activation) (below : List Activation) (c : EndCause) → r.calls ≡ top ∷ below → ran.steps < set.limits.steps - l.done → moves set.program top below r.heap ≡ move.Ends c → w'.heap ≡ r.heap → Ended set t (lone_at t w l) (Ends c (ended_at w' c))
+    shares_there : w'.heap ≡ r.heap → Shares t there w'
+    shares_there same = record { heap = sym same; next = refl; kept = λ i. kept_for t (sym ran.kept i) }
+
+    there_nowhere : (top : Activation) (below : List Activation) → r.calls ≡ top ∷ below → ((m : MethodId) (args : List Value) (frames : List Activation) → moves set.program top below r.heap ≡ move.Asks m args frames r.heap → ⊥) → WaitsNowhere set t there.thread
+    there_nowhere top below are never =
+        subst (λ (fs : List Activation). WaitsNowhere set t (Alive fs (l.done + ran.steps) l.boxes)) (sym are) (unasked top below (l.done + ran.steps) l.boxes r.heap (λ m args frames w asks calls. never m args frames asks))
+
+    pub ends_at : (top : Activation) (below : List Activation) (c : EndCause) → r.calls ≡ top ∷ below → ran.steps < set.limits.steps - l.done → moves set.program top below r.heap ≡ move.Ends c → w'.heap ≡ r.heap → Ended set t (lone_at t w l) w' c
     ends_at top below c are few e same = record {
       mid = there;
+      shares = shares_there same;
+      nowhere = there_nowhere top below are (λ m args frames asks. let z = sym e ∙ asks in cc);
       quiet = to_there;
       does = next_there top below are few ∙ (ap (next_by set t there (l.done + ran.steps) l.boxes top below) e
           ∙ ap (λ (x : Objects). Ends c (record { heap = x; next = w'.next; thread = Rattle.kilim_run_model.specs.State.Ended c; kept = None })) (sym same));
@@ -203,10 +333,12 @@ module _ (set : Setting) (t : ℕ) where
       few_then : mid.done < set.limits.steps
       few_then = let a = ran.counted in omega (arith, few, a)
 
-      pub raises_at : (c : EndCause) → moves set.program top below r.heap ≡ move.Raises c → Led (lone_at t w l) mid.done (raised_at set.program (lone_at t w' mid) (calls_in mid.frames) mid.done mid.boxes c)
+      pub raises_at : (c : EndCause) → moves set.program top below r.heap ≡ move.Raises c → Led (lone_at t w l) w' mid.done (raised_at set.program (lone_at t w' mid) (calls_in mid.frames) mid.done mid.boxes c)
       raises_at c e = record {
         mid = there;
         quiet = to_there;
+        shares = shares_there same;
+        nowhere = there_nowhere top below are (λ m args frames asks. let z = sym e ∙ asks in cc);
         does = next_there top below are few
             ∙ (ap (next_by set t there (l.done + ran.steps) l.boxes top below) e
             ∙ (ap (λ (ix : List ℕ). raises_of set.program there c (l.done + ran.steps + 1) l.boxes (λ k. thrown set.program k (Ref w'.next) top below) (raised_class set.program ix c)) (sym (same_index set.program top below ran.frames at))
@@ -216,10 +348,12 @@ module _ (set : Setting) (t : ℕ) where
         few = few_then;
       }
 
-      pub throws_at : (n : ℕ) (class : ClassId) (c : EndCause) → moves set.program top below r.heap ≡ move.Throws n class c → Led (lone_at t w l) mid.done (thrown_at set.program (lone_at t w' mid) (calls_in mid.frames) mid.done mid.boxes n class c)
+      pub throws_at : (n : ℕ) (class : ClassId) (c : EndCause) → moves set.program top below r.heap ≡ move.Throws n class c → Led (lone_at t w l) w' mid.done (thrown_at set.program (lone_at t w' mid) (calls_in mid.frames) mid.done mid.boxes n class c)
       throws_at n class c e = record {
         mid = there;
         quiet = to_there;
+        shares = shares_there same;
+        nowhere = there_nowhere top below are (λ m args frames asks. let z = sym e ∙ asks in cc);
         does = next_there top below are few
             ∙ (ap (next_by set t there (l.done + ran.steps) l.boxes top below) e
             ∙ (ap (throws_by there c (l.done + ran.steps + 1) l.boxes) (sym (same_thrown set.program top below ran.frames at class (Ref n)))
@@ -229,11 +363,11 @@ module _ (set : Setting) (t : ℕ) where
       }
 
     -- all of its instructions are done
-    pub spent_at : ran.steps ≡ set.limits.steps - l.done → w'.heap ≡ r.heap → Ended set t (lone_at t w l) (Ends cause.Spent (ended_at w' cause.Spent))
+    pub spent_at : ran.steps ≡ set.limits.steps - l.done → w'.heap ≡ r.heap → Ended set t (lone_at t w l) w' cause.Spent
     unfolding next_move
     spent_at all same =
         let full : set.limits.steps ≤ l.done + ran.steps = omega (arith, all, lt) in
-        record { mid = there; quiet = to_there; does = spent_move_at full ∙ ap (λ (x : Objects). Ends cause.Spent (record { heap = x; next = w'.next; thread = Rattle.kilim_run_model.specs.State.Ended cause.Spent; kept = None })) (sym same) }
+        record { mid = there; quiet = to_there; shares = shares_there same; nowhere = spent_nowhere r.calls (l.done + ran.steps) l.boxes full; does = spent_move_at full ∙ ap (λ (x : Objects). Ends cause.Spent (record { heap = x; next = w'.next; thread = Rattle.kilim_run_model.specs.State.Ended cause.Spent; kept = None })) (sym same) }
       where
         spent_move_at : set.limits.steps ≤ l.done + ran.steps → next_move set t there ≡ over there cause.Spent
         spent_move_at full = spent_by (nat_le set.limits.steps (l.done + ran.steps)) there (frames_next set t there r.calls (l.done + ran.steps) l.boxes) (le_true set.limits.steps (l.done + ran.steps) full)
@@ -249,32 +383,50 @@ module _ (set : Setting) (t : ℕ) where
     with_next : (n m : Next) → n ≡ m → Stood set t first w' mid n → Stood set t first w' mid m
     with_next n m e s = record { quiet = s.quiet; does = s.does ∙ e; few = s.few }
 
-    pub came_by : (n : Next) (w'' : World) (l'' : Live) (c : Came) → Stood set t first w' mid n → IsNear mid.done l''.done → Comes t n w' mid w'' l'' c → Reaches set t first done w'' l'' c
-    came_by n w'' l'' came.On s near f =
+    shares_mid : (w'' : World) → w'' ≡ w' → Shares t (lone_at t w' mid) w''
+    shares_mid w'' e = subst (Shares t (lone_at t w' mid)) (sym e) (record { heap = refl; next = refl; kept = refl })
+
+    pub came_by : (n : Next) (w'' : World) (l'' : Live) (c : Came) → Stood set t first w' mid n → SuitsAt set t w' mid c → IsNear mid.done l''.done → Comes t n w' mid w'' l'' c → Reaches set t first done w'' l'' c
+    came_by n w'' l'' came.On s suits near f =
         let a = f.counted in
         let b = near.most in
         let d = s.few in
         record { quiet = Moves (lone_at t w' mid) s.quiet (s.does ∙ f.goes); more = omega (arith, a, least); most = omega (arith, b, d) }
-    came_by n w'' l'' (came.Puts box root shape) s near f = same_stood (λ x y. Rattle.kilim_run_model.specs.Lone.Puts box root shape (behind_at t x y)) w'' l'' (with_next n _ f.0 s) f.1
-    came_by n w'' l'' (came.Takes box) s near f = same_stood (λ x y. Rattle.kilim_run_model.specs.Lone.Gets box (behind_at t x y)) w'' l'' (with_next n _ f.0 s) f.1
-    came_by n w'' l'' (came.Probes box) s near f = same_stood (λ x y. Rattle.kilim_run_model.specs.Lone.Probes box (behind_at t x y)) w'' l'' (with_next n _ f.0 s) f.1
-    came_by n w'' l'' (came.Starts root shape) s near f = same_stood (λ x y. Rattle.kilim_run_model.specs.Lone.Starts root shape (behind_at t x y)) w'' l'' (with_next n _ f.0 s) f.1
-    came_by n w'' l'' (came.Prints shape) s near f = (f.0, f.1, same_stood (λ x y. Rattle.kilim_run_model.specs.Lone.Prints f.0 (behind_at t x y)) w'' l'' (with_next n _ f.2 s) f.3)
-    came_by n w'' l'' (came.Ends why) s near f = record { mid = lone_at t w' mid; quiet = s.quiet; does = s.does ∙ (f.0 ∙ ap (λ (x : World). Ends why (ended_at x why)) (sym f.1)) }
+    came_by n w'' l'' (came.Puts box root shape) s suits near f = same_stood (λ x y. Rattle.kilim_run_model.specs.Lone.Puts box root shape (behind_at t x y)) w'' l'' (with_next n _ f.0 s) f.1
+    came_by n w'' l'' (came.PutsWaiting box root shape) s suits near f = (
+      same_stood (λ x y. Rattle.kilim_run_model.specs.Lone.PutWaits box root shape (behind_at t x y)) w'' l'' (with_next n _ f.0 s) f.1,
+      subst (λ (x : Live). PutsThere set (thread_in x) box root) (sym f.1.live) suits,
+    )
+    came_by n w'' l'' (came.TooLarge box root) s suits near f = record { mid = lone_at t w' mid; quiet = s.quiet; does = s.does ∙ (f.0 ∙ ap (λ (x : World). Ends cause.Large (ended_at x cause.Large)) (sym f.1)); shares = shares_mid w'' f.1; puts = suits }
+    came_by n w'' l'' (came.Bounds box most) s suits near f = same_stood (λ x y. Rattle.kilim_run_model.specs.Lone.Bounds box most (behind_at t x y)) w'' l'' (with_next n _ f.0 s) f.1
+    came_by n w'' l'' (came.Takes box) s suits near f = same_stood (λ x y. Rattle.kilim_run_model.specs.Lone.Gets box (behind_at t x y)) w'' l'' (with_next n _ f.0 s) f.1
+    came_by n w'' l'' (came.Probes box) s suits near f = same_stood (λ x y. Rattle.kilim_run_model.specs.Lone.Probes box (behind_at t x y)) w'' l'' (with_next n _ f.0 s) f.1
+    came_by n w'' l'' (came.Starts root shape) s suits near f = same_stood (λ x y. Rattle.kilim_run_model.specs.Lone.Starts root shape (behind_at t x y)) w'' l'' (with_next n _ f.0 s) f.1
+    came_by n w'' l'' (came.Prints shape) s suits near f = (f.0, f.1, same_stood (λ x y. Rattle.kilim_run_model.specs.Lone.Prints f.0 (behind_at t x y)) w'' l'' (with_next n _ f.2 s) f.3)
+    came_by n w'' l'' (came.Ends why) s suits near f = record { mid = lone_at t w' mid; quiet = s.quiet; does = s.does ∙ (f.0 ∙ ap (λ (x : World). Ends why (ended_at x why)) (sym f.1)); shares = shares_mid w'' f.1; nowhere = suits }
 
     -- where it goes on or ends
-    pub led_by : (n : Next) (w'' : World) (l'' : Live) (c : Came) → IsOnOrEnd c → Led first mid.done n → IsNear mid.done l''.done → Comes t n w' mid w'' l'' c → Reaches set t first done w'' l'' c
+    pub led_by : (n : Next) (w'' : World) (l'' : Live) (c : Came) → IsOnOrEnd c → Led first w' mid.done n → IsNear mid.done l''.done → Comes t n w' mid w'' l'' c → Reaches set t first done w'' l'' c
     led_by n w'' l'' came.On one s near f =
         let a = f.counted in
         let b = near.most in
         let d = s.few in
         record { quiet = Moves s.mid s.quiet (s.does ∙ f.goes); more = omega (arith, a, least); most = omega (arith, b, d) }
     led_by n w'' l'' (came.Puts box root shape) one s near f = absurd one
+    led_by n w'' l'' (came.PutsWaiting box root shape) one s near f = absurd one
+    led_by n w'' l'' (came.TooLarge box root) one s near f = absurd one
+    led_by n w'' l'' (came.Bounds box most) one s near f = absurd one
     led_by n w'' l'' (came.Takes box) one s near f = absurd one
     led_by n w'' l'' (came.Probes box) one s near f = absurd one
     led_by n w'' l'' (came.Starts root shape) one s near f = absurd one
     led_by n w'' l'' (came.Prints shape) one s near f = absurd one
-    led_by n w'' l'' (came.Ends why) one s near f = record { mid = s.mid; quiet = s.quiet; does = s.does ∙ (f.0 ∙ ap (λ (x : World). Ends why (ended_at x why)) (sym f.1)) }
+    led_by n w'' l'' (came.Ends why) one s near f = record {
+      mid = s.mid;
+      quiet = s.quiet;
+      does = s.does ∙ (f.0 ∙ ap (λ (x : World). Ends why (ended_at x why)) (sym f.1));
+      shares = subst (Shares t s.mid) (sym f.1) s.shares;
+      nowhere = s.nowhere;
+    }
 
   -- ---- from an earlier place on
 
@@ -284,11 +436,14 @@ module _ (set : Setting) (t : ℕ) where
   pub reach_on : (a b : Lone) (early late : ℕ) (w : World) (l : Live) (c : Came) → Quiet set t a b → early ≤ late → Reaches set t b late w l c → Reaches set t a early w l c
   reach_on a b early late w l came.On q le r = let m = r.more in record { quiet = quiet_on a b (lone_at t w l) q r.quiet; more = omega (arith, m, le); most = r.most }
   reach_on a b early late w l (came.Puts box root shape) q le r = record { quiet = quiet_on a b (lone_at t w l) q r.quiet; does = r.does; few = r.few }
+  reach_on a b early late w l (came.PutsWaiting box root shape) q le r = (record { quiet = quiet_on a b (lone_at t w l) q r.0.quiet; does = r.0.does; few = r.0.few }, r.1)
+  reach_on a b early late w l (came.TooLarge box root) q le r = record { mid = r.mid; quiet = quiet_on a b r.mid q r.quiet; does = r.does; shares = r.shares; puts = r.puts }
+  reach_on a b early late w l (came.Bounds box most) q le r = record { quiet = quiet_on a b (lone_at t w l) q r.quiet; does = r.does; few = r.few }
   reach_on a b early late w l (came.Takes box) q le r = record { quiet = quiet_on a b (lone_at t w l) q r.quiet; does = r.does; few = r.few }
   reach_on a b early late w l (came.Probes box) q le r = record { quiet = quiet_on a b (lone_at t w l) q r.quiet; does = r.does; few = r.few }
   reach_on a b early late w l (came.Starts root shape) q le r = record { quiet = quiet_on a b (lone_at t w l) q r.quiet; does = r.does; few = r.few }
   reach_on a b early late w l (came.Prints shape) q le r = (r.0, r.1, record { quiet = quiet_on a b (lone_at t w l) q r.2.quiet; does = r.2.does; few = r.2.few })
-  reach_on a b early late w l (came.Ends why) q le r = record { mid = r.mid; quiet = quiet_on a b r.mid q r.quiet; does = r.does }
+  reach_on a b early late w l (came.Ends why) q le r = record { mid = r.mid; quiet = quiet_on a b r.mid q r.quiet; does = r.does; shares = r.shares; nowhere = r.nowhere }
 
 -- ---- answers
 
@@ -297,10 +452,6 @@ none_there None e = refl
 none_there (Some x) e = absurd (cc)
 
 -- what holds of an answer that isn't want of memory
-pub over_ok : {A E : Type 0} (P Q : A → Type 0) (R : Type 0) (r : Result A E) → IfOk r P → OnOk r R → ((a : A) → P a → R → Q a) → IfOk r Q
-over_ok P Q R (Ok a) p x f = f a p x
-over_ok P Q R (Err e) p x f = tt
-
 pub both_ok : {A E : Type 0} (P B Q : A → Type 0) (R : Type 0) (r : Result A E) → IfOk r P → IfOk r B → OnOk r R → ((a : A) → P a → B a → R → Q a) → IfOk r Q
 both_ok P B Q R (Ok a) p b x f = f a p b x
 both_ok P B Q R (Err e) p b x f = tt
@@ -311,6 +462,9 @@ fewer steps old new lt le = omega arith
 pub coming_by : (c : Came) → (c ≡ came.On → ⊥) → IsComing c
 coming_by came.On out = absurd (out refl)
 coming_by (came.Puts box root shape) out = tt
+coming_by (came.PutsWaiting box root shape) out = tt
+coming_by (came.TooLarge box root) out = tt
+coming_by (came.Bounds box most) out = tt
 coming_by (came.Takes box) out = tt
 coming_by (came.Probes box) out = tt
 coming_by (came.Starts root shape) out = tt

@@ -1,19 +1,23 @@
 -- What a task comes to at a built-in method, against what a thread does next there.
-use Rattle.std.specs.Prelude.{◌≡◌, ◌<◌, ◌≤◌, ◌+◌, ◌-◌, ℕ, true, List, [], ◌∷◌, Option, Some}
+use Rattle.std.specs.Prelude.{◌≡◌, ◌<◌, ◌≤◌, ◌+◌, ◌-◌, ℕ, true, false, List, [], ◌∷◌, Option, Some, None}
 use Rattle.kilim_program.specs.Program.{Program}
 use Rattle.kilim_program.specs.declared.value.Value.{Value}
-use Rattle.kilim_program.specs.declared.value.Value.TheVariants.{Ref}
+use Rattle.kilim_program.specs.declared.names.BoxName.{BoxName}
+use Rattle.kilim_program.specs.declared.value.Value.TheVariants.{Null, Ref, Box}
+use Rattle.kilim_run_state.specs.declared.cause.EndCause.TheVariants.{Large}
 use Rattle.kilim_run_state.specs.declared.frames.frames.Frames.{Frames}
 use Rattle.kilim_run_state.specs.declared.value.Token.{Token}
 use Rattle.kilim_run_state.specs.Machine.{Objects}
 use Rattle.kilim_run_state.specs.Words.{IsThere}
 use Rattle.kilim_run_machine.specs.Natives.{Native}
-use Rattle.kilim_run_model.specs.Lone.{Next, Goes, Puts, Gets, Probes, Starts, Prints, Ends}
+use Rattle.kilim_run_machine.specs.Natives as native
+use Rattle.kilim_run_model.specs.Lone.{Next, Goes, Puts, PutWaits, Bounds, Gets, Probes, Starts, Prints, Ends}
 use Rattle.kilim_run_trees.specs.Shaping.{AllSuit}
 use Rattle.kilim_run_trees.specs.Walk.{AllThere}
 use Rattle.kilim_type_sound.specs.Fits.{AreThere}
 use Rattle.kilim_fiber_spec.specs.fiber_kin.Served.{gives_value}
 use Rattle.kilim_replay_laws.specs.shared.Shared.{HeapServes}
+use Rattle.kilim_replay_laws.specs.Waiting.{waits_call}
 use Rattle.kilim_replay_thread.specs.Live.{HasFrames, RoomIn, behind_at, calls_in, ended_at, lone_at}
 use Rattle.kilim_replay_thread.specs.Thread.{HasRun}
 use Rattle.kilim_replay_thread.specs.declared.runs.Halted.{Halted}
@@ -31,6 +35,11 @@ pub record CanShow (p : Program) (h : Objects) (root : ℕ) : Type 0 where
 abbrev pub IsShownValue : Program → Objects → Value → Type 0
 IsShownValue p h (Ref n) = CanShow p h n
 IsShownValue p h v = Unit {0}
+
+-- what is put where an object is, or null
+abbrev pub value_named : Option ℕ → Value
+value_named None = Null
+value_named (Some n) = Ref n
 
 -- ---- what comes
 
@@ -53,6 +62,9 @@ pub record IsSame (w : World) (l : Live) (w' : World) (l' : Live) : Type 0 where
 abbrev pub Comes : ℕ → Next → World → Live → World → Live → Came → Type 0
 Comes t next w l w' l' came.On = IsFurther t next l w' l'
 Comes t next w l w' l' (came.Puts box root shape) = (next ≡ Puts box root shape (behind_at t w l)) × IsSame w l w' l'
+Comes t next w l w' l' (came.PutsWaiting box root shape) = (next ≡ PutWaits box root shape (behind_at t w l)) × IsSame w l w' l'
+Comes t next w l w' l' (came.TooLarge box root) = (next ≡ Ends Large (ended_at w Large)) × (w' ≡ w)
+Comes t next w l w' l' (came.Bounds box most) = (next ≡ Bounds box most (behind_at t w l)) × IsSame w l w' l'
 Comes t next w l w' l' (came.Takes box) = (next ≡ Gets box (behind_at t w l)) × IsSame w l w' l'
 Comes t next w l w' l' (came.Probes box) = (next ≡ Probes box (behind_at t w l)) × IsSame w l w' l'
 Comes t next w l w' l' (came.Starts root shape) = (next ≡ Starts root shape (behind_at t w l)) × IsSame w l w' l'
@@ -65,10 +77,33 @@ IsOnOrEnd came.On = Unit {0}
 IsOnOrEnd (came.Ends why) = Unit {0}
 IsOnOrEnd c = ⊥
 
+-- no put that waits
+abbrev pub IsOther : Came → Type 0
+IsOther (came.PutsWaiting box root shape) = ⊥
+IsOther (came.TooLarge box root) = ⊥
+IsOther c = Unit {0}
+
+-- what is put where a task comes to a put that waits; it ends otherwise where that is null
+abbrev pub IsPutWait : BoxName → Value → Came → Type 0
+IsPutWait box message (came.PutsWaiting b root shape) = (b ≡ box) × (message ≡ Ref root)
+IsPutWait box message (came.TooLarge b root) = (b ≡ box) × (message ≡ Ref root)
+IsPutWait box message (came.Ends why) = message ≡ Null
+IsPutWait box message c = Unit {0}
+
+-- it comes to a put that waits only at the call of one, and ends otherwise at no call that may have to wait
+abbrev pub SuitsCall : Option Native → List Value → Came → Type 0
+SuitsCall o args (came.PutsWaiting box root shape) = (o ≡ Some native.PutWait) × (args ≡ Box box ∷ Ref root ∷ [])
+SuitsCall o args (came.TooLarge box root) = (o ≡ Some native.PutWait) × (args ≡ Box box ∷ Ref root ∷ [])
+SuitsCall o args (came.Ends why) = waits_call o args ≡ false
+SuitsCall o args c = Unit {0}
+
 -- It stands at an instruction, and there is room for the result that it is to get. The task object is there.
 abbrev pub HasRoomFor : Program → World → Live → Came → Type 0
 HasRoomFor p w l came.On = Unit {0}
 HasRoomFor p w l (came.Puts box root shape) = HasFrames l.frames
+HasRoomFor p w l (came.PutsWaiting box root shape) = HasFrames l.frames
+HasRoomFor p w l (came.TooLarge box root) = Unit {0}
+HasRoomFor p w l (came.Bounds box most) = HasFrames l.frames
 HasRoomFor p w l (came.Takes box) = RoomIn p l.frames
 HasRoomFor p w l (came.Probes box) = RoomIn p l.frames
 HasRoomFor p w l (came.Starts root shape) = HasFrames l.frames × IsThere w.heap root

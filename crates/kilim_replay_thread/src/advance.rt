@@ -4,7 +4,7 @@ ghost use Rattle.std.specs.Prelude.{◌≡◌, ◌<◌, ◌≤◌, ◌+◌, ◌-
 ghost use Rattle.kilim_run_model.specs.State.{Setting};
 ghost use Rattle.kilim_run_model.specs.Lone.{opens_next, finish_next};
 ghost use Rattle.kilim_replay_laws.specs.shared.Runs.{CanGo};
-ghost use Rattle.kilim_replay_thread.specs.Comes.{Comes, HasRoomFor, HasRunOn, IsNear};
+ghost use Rattle.kilim_replay_thread.specs.Comes.{Comes, HasRoomFor, HasRunOn, IsNear, IsOther};
 ghost use Rattle.kilim_replay_thread.specs.Live.{HasFrames, RoomIn, RoomyIn, answered_in, calls_in, kept_for, lone_at};
 ghost use Rattle.kilim_replay_thread.specs.Reach.{IsComing, Reaches, setting_of};
 ghost use Rattle.kilim_replay_thread.specs.Thread.{IsSafe};
@@ -63,6 +63,7 @@ fn open(program: &Program, task: u32, world: &World, live: &mut Live) -> Came
     requires room { RoomIn program.now live.old.frames }
     requires counts { live.old.done + 1 < 2 ^ 64 }
     ensures comes { Comes task (opens_next task (lone_at task world.now live.old) (answered_in live.old.frames) live.old.done live.old.boxes) world.now live.old world.now live.new result }
+    ensures other { IsOther result }
     ensures roomy { RoomyIn program.now live.new.frames }
     ensures counted { IsNear live.old.done live.new.done }
     ensures room { HasRoomFor program.now world.now live.new result }
@@ -103,6 +104,7 @@ fn leave(
     requires roomy { RoomyIn program.now live.old.frames }
     requires counts { live.old.done + 1 < 2 ^ 64 }
     ensures comes { (set : Setting) → set.program ≡ program.now → set.main ≡ main → IfOk result (λ came. Comes task (finish_next set (lone_at task world.old live.old) live.old.done live.old.boxes (kept_for task world.old.kept)) world.old live.old world.new live.new came) }
+    ensures other { IfOk result IsOther }
     ensures roomy { OnOk result (RoomyIn program.now live.new.frames) }
     ensures counted { OnOk result (IsNear live.old.done live.new.done) }
     ensures room { IfOk result (λ came. HasRoomFor program.now world.new live.new came) }

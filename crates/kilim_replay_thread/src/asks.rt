@@ -5,10 +5,10 @@ ghost use Rattle.kilim_program.specs.declared.value.Value.TheVariants as a_value
 ghost use Rattle.kilim_run_machine.specs.Natives.{native_of};
 ghost use Rattle.kilim_run_state.specs.Shapes.{shape_of};
 ghost use Rattle.kilim_run_model.specs.State.{Setting};
-ghost use Rattle.kilim_run_model.specs.Lone.{Goes, pushed, narrowed, arg_at, arg_next, printed, print_next, message_next, put_next, start_next, native_next, asks_next};
+ghost use Rattle.kilim_run_model.specs.Lone.{Goes, pushed, narrowed, arg_at, arg_next, printed, print_next, message_next, put_next, put_wait_next, wait_next, bound_next, start_next, native_next, asks_next};
 ghost use Rattle.kilim_fiber_steps.specs.records.natives.Natives.{meaning};
 ghost use Rattle.kilim_replay_laws.specs.shared.Shared.{HeapServes};
-ghost use Rattle.kilim_replay_thread.specs.Comes.{CanAsk, CanShow, Comes, HasRoomFor, IsNear, IsShownValue};
+ghost use Rattle.kilim_replay_thread.specs.Comes.{CanAsk, CanShow, Comes, HasRoomFor, IsNear, IsOnOrEnd, IsOther, IsPutWait, IsShownValue, SuitsCall, value_named};
 ghost use Rattle.kilim_replay_thread.specs.Live.{HasFrames, HasOperands, RoomIn, RoomyIn, behind_at, operands_in};
 ghost use Rattle.kilim_replay_thread.specs.Operands.{AreCopies};
 
@@ -37,6 +37,7 @@ fn count_args(program: &Program, limits: &Limits, task: u32, world: &World, live
     requires room { RoomIn program.now live.old.frames }
     requires counts { live.old.done + 1 < 2 ^ 64 }
     ensures comes { Comes task (Goes (pushed (a_value.Int (narrowed (length limits.now.args))) (behind_at task world.now live.old))) world.now live.old world.now live.new result }
+    ensures other { IsOther result }
     ensures roomy { RoomyIn program.now live.new.frames }
     ensures counted { IsNear live.old.done live.new.done }
     ensures room { HasRoomFor program.now world.now live.new result }
@@ -72,6 +73,7 @@ fn arg(
     requires room { RoomIn program.now live.old.frames }
     requires counts { live.old.done + 1 < 2 ^ 64 }
     ensures comes { IfOk result (λ came. Comes task (arg_next program.now (behind_at task world.old live.old) (arg_at limits.now.args index.now)) world.old live.old world.new live.new came) }
+    ensures other { IfOk result IsOther }
     ensures roomy { OnOk result (RoomyIn program.now live.new.frames) }
     ensures counted { OnOk result (IsNear live.old.done live.new.done) }
     ensures room { IfOk result (λ came. HasRoomFor program.now world.new live.new came) }
@@ -123,6 +125,7 @@ fn print(
 ) -> Result<Came, NoMemory>
     requires frames { HasFrames live.now.frames }
     ensures comes { IfOk result (λ came. Comes task (print_next (behind_at task world.now live.now) (printed value.now)) world.now live.now world.now live.now came) }
+    ensures other { IfOk result IsOther }
     ensures room { IfOk result (λ came. HasRoomFor program.now world.now live.now came) }
 {
     let _ = program;
@@ -140,6 +143,18 @@ fn print(
     }
 }
 
+// The object that is put; none where it is null.
+fn message_of(message: &Value) -> Result<Option<u32>, NoMemory>
+    ensures { IfOk result (λ root. message.now ≡ value_named root) }
+{
+    match message {
+        Value::Null => Ok(None),
+        Value::Ref(root) => Ok(Some(*root)),
+        // unmet: `put` and `putw` are declared of messages
+        _ => Err(unmet()),
+    }
+}
+
 // `put` of a message
 fn put_tree(
     alloc: Global,
@@ -153,6 +168,7 @@ fn put_tree(
     requires frames { HasFrames live.now.frames }
     requires shown { CanShow program.now world.now.heap root }
     ensures comes { IfOk result (λ came. Comes task (put_next (behind_at task world.now live.now) mailbox root (shape_of program.now world.now.heap root)) world.now live.now world.now live.now came) }
+    ensures other { IfOk result IsOther }
     ensures room { IfOk result (λ came. HasRoomFor program.now world.now live.now came) }
 {
     let _ = task;
@@ -179,16 +195,96 @@ fn put(
     requires counts { live.old.done + 1 < 2 ^ 64 }
     requires shown { IsShownValue program.now world.old.heap message.now }
     ensures comes { IfOk result (λ came. Comes task (message_next program.now (behind_at task world.old live.old) mailbox message.now) world.old live.old world.new live.new came) }
+    ensures other { IfOk result IsOther }
     ensures roomy { OnOk result (RoomyIn program.now live.new.frames) }
     ensures counted { OnOk result (IsNear live.old.done live.new.done) }
     ensures room { IfOk result (λ came. HasRoomFor program.now world.new live.new came) }
     ensures kept { OnOk result (world.new.kept ≡ world.old.kept) }
 {
-    match message {
-        Value::Null => raise_called(alloc, program, EndCause::Null, task, world, live),
-        Value::Ref(root) => put_tree(alloc, program, mailbox, *root, task, world, live),
-        // unmet: `put` is declared of messages
-        _ => Err(unmet()),
+    match message_of(message) {
+        Ok(None) => raise_called(alloc, program, EndCause::Null, task, world, live),
+        Ok(Some(root)) => put_tree(alloc, program, mailbox, root, task, world, live),
+        Err(fault) => Err(fault),
+    }
+}
+
+// `putw` of a message
+fn put_wait_tree(
+    alloc: Global,
+    program: &Program,
+    mailbox: BoxName,
+    root: u32,
+    task: u32,
+    world: &World,
+    live: &Live,
+) -> Result<Came, NoMemory>
+    requires frames { HasFrames live.now.frames }
+    requires shown { CanShow program.now world.now.heap root }
+    ensures comes { IfOk result (λ came. Comes task (put_wait_next (behind_at task world.now live.now) mailbox root (shape_of program.now world.now.heap root)) world.now live.now world.now live.now came) }
+    ensures waits { IfOk result (IsPutWait mailbox (a_value.Ref root)) }
+    ensures room { IfOk result (λ came. HasRoomFor program.now world.now live.now came) }
+{
+    let _ = task;
+    let _ = live;
+    match shape_at(alloc, program, &world.heap, root) {
+        Ok(Some(shape)) => Ok(Came::PutsWaiting(mailbox, root, shape)),
+        Ok(None) => Ok(Came::TooLarge(mailbox, root)),
+        Err(fault) => Err(fault),
+    }
+}
+
+// `putw`
+fn put_wait(
+    alloc: Global,
+    program: &Program,
+    mailbox: BoxName,
+    message: &Value,
+    task: u32,
+    world: &mut World,
+    live: &mut Live,
+) -> Result<Came, NoMemory>
+    requires frames { HasFrames live.old.frames }
+    requires roomy { RoomyIn program.now live.old.frames }
+    requires counts { live.old.done + 1 < 2 ^ 64 }
+    requires shown { IsShownValue program.now world.old.heap message.now }
+    ensures comes { IfOk result (λ came. Comes task (wait_next program.now (behind_at task world.old live.old) mailbox message.now) world.old live.old world.new live.new came) }
+    ensures waits { IfOk result (IsPutWait mailbox message.now) }
+    ensures roomy { OnOk result (RoomyIn program.now live.new.frames) }
+    ensures counted { OnOk result (IsNear live.old.done live.new.done) }
+    ensures room { IfOk result (λ came. HasRoomFor program.now world.new live.new came) }
+    ensures kept { OnOk result (world.new.kept ≡ world.old.kept) }
+{
+    match message_of(message) {
+        Ok(None) => raise_called(alloc, program, EndCause::Null, task, world, live),
+        Ok(Some(root)) => put_wait_tree(alloc, program, mailbox, root, task, world, live),
+        Err(fault) => Err(fault),
+    }
+}
+
+// the constructor that bounds a mailbox
+fn bound(
+    alloc: Global,
+    program: &Program,
+    mailbox: BoxName,
+    most: &i32,
+    task: u32,
+    world: &mut World,
+    live: &mut Live,
+) -> Result<Came, NoMemory>
+    requires frames { HasFrames live.old.frames }
+    requires roomy { RoomyIn program.now live.old.frames }
+    requires counts { live.old.done + 1 < 2 ^ 64 }
+    ensures comes { IfOk result (λ came. Comes task (bound_next program.now (behind_at task world.old live.old) mailbox most.now) world.old live.old world.new live.new came) }
+    ensures other { IfOk result IsOther }
+    ensures roomy { OnOk result (RoomyIn program.now live.new.frames) }
+    ensures counted { OnOk result (IsNear live.old.done live.new.done) }
+    ensures room { IfOk result (λ came. HasRoomFor program.now world.new live.new came) }
+    ensures kept { OnOk result (world.new.kept ≡ world.old.kept) }
+{
+    match u32::try_from(*most) {
+        Ok(0) => raise_called(alloc, program, EndCause::Size, task, world, live),
+        Ok(number) => Ok(Came::Bounds(mailbox, number)),
+        Err(_) => raise_called(alloc, program, EndCause::Size, task, world, live),
     }
 }
 
@@ -204,6 +300,7 @@ fn start(
     requires frames { HasFrames live.now.frames }
     requires shown { CanShow program.now world.now.heap root }
     ensures comes { IfOk result (λ came. Comes task (start_next (behind_at task world.now live.now) root (shape_of program.now world.now.heap root)) world.now live.now world.now live.now came) }
+    ensures other { IfOk result IsOther }
     ensures room { IfOk result (λ came. HasRoomFor program.now world.now live.now came) }
 {
     let _ = task;
@@ -229,6 +326,7 @@ fn ask_of_none(
     requires counts { live.old.done + 1 < 2 ^ 64 }
     requires can { CanAsk program.now (Some (meaning native)) [] world.now live.old }
     ensures comes { (set : Setting) → set.program ≡ program.now → set.limits ≡ limits.now → IfOk result (λ came. Comes task (native_next set (behind_at task world.now live.old) (meaning native) []) world.now live.old world.now live.new came) }
+    ensures suits { IfOk result (SuitsCall (Some (meaning native)) []) }
     ensures roomy { OnOk result (RoomyIn program.now live.new.frames) }
     ensures counted { OnOk result (IsNear live.old.done live.new.done) }
     ensures room { IfOk result (λ came. HasRoomFor program.now world.now live.new came) }
@@ -260,6 +358,7 @@ fn ask_of_one(
     requires counts { live.old.done + 1 < 2 ^ 64 }
     requires can { CanAsk program.now (Some (meaning native)) (value.now ∷ []) world.old live.old }
     ensures comes { (set : Setting) → set.program ≡ program.now → set.limits ≡ limits.now → IfOk result (λ came. Comes task (native_next set (behind_at task world.old live.old) (meaning native) (value.now ∷ [])) world.old live.old world.new live.new came) }
+    ensures suits { IfOk result (SuitsCall (Some (meaning native)) (value.now ∷ [])) }
     ensures roomy { OnOk result (RoomyIn program.now live.new.frames) }
     ensures counted { OnOk result (IsNear live.old.done live.new.done) }
     ensures room { IfOk result (λ came. HasRoomFor program.now world.new live.new came) }
@@ -298,16 +397,23 @@ fn ask_of_two(
     requires counts { live.old.done + 1 < 2 ^ 64 }
     requires can { CanAsk program.now (Some (meaning native)) (first.now ∷ second.now ∷ []) world.old live.old }
     ensures comes { (set : Setting) → set.program ≡ program.now → IfOk result (λ came. Comes task (native_next set (behind_at task world.old live.old) (meaning native) (first.now ∷ second.now ∷ [])) world.old live.old world.new live.new came) }
+    ensures suits { IfOk result (SuitsCall (Some (meaning native)) (first.now ∷ second.now ∷ [])) }
     ensures roomy { OnOk result (RoomyIn program.now live.new.frames) }
     ensures counted { OnOk result (IsNear live.old.done live.new.done) }
     ensures room { IfOk result (λ came. HasRoomFor program.now world.new live.new came) }
     ensures kept { OnOk result (world.new.kept ≡ world.old.kept) }
 {
-    match (native, first) {
-        (Native::Put, Value::Box(mailbox)) => {
-            put(alloc, program, *mailbox, second, task, world, live)
+    match (native, first, second) {
+        (Native::Put, Value::Box(mailbox), message) => {
+            put(alloc, program, *mailbox, message, task, world, live)
         }
-        // unmet: `put` alone has two arguments, of which the first is a mailbox that isn't null
+        (Native::PutWait, Value::Box(mailbox), message) => {
+            put_wait(alloc, program, *mailbox, message, task, world, live)
+        }
+        (Native::Bound, Value::Box(mailbox), Value::Int(most)) => {
+            bound(alloc, program, *mailbox, most, task, world, live)
+        }
+        // unmet: these alone have two arguments, of which the first is a mailbox that isn't null
         _ => Err(unmet()),
     }
 }
@@ -329,6 +435,7 @@ fn ask_with(
     requires counts { live.old.done + 1 < 2 ^ 64 }
     requires can { CanAsk program.now (Some (meaning native)) (operands_in live.old.frames) world.old live.old }
     ensures comes { (set : Setting) → set.program ≡ program.now → set.limits ≡ limits.now → IfOk result (λ came. Comes task (native_next set (behind_at task world.old live.old) (meaning native) (operands_in live.old.frames)) world.old live.old world.new live.new came) }
+    ensures suits { IfOk result (SuitsCall (Some (meaning native)) (operands_in live.old.frames)) }
     ensures roomy { OnOk result (RoomyIn program.now live.new.frames) }
     ensures counted { OnOk result (IsNear live.old.done live.new.done) }
     ensures room { IfOk result (λ came. HasRoomFor program.now world.new live.new came) }
@@ -363,6 +470,7 @@ pub fn ask(
     requires counts { live.old.done + 1 < 2 ^ 64 }
     requires can { CanAsk program.now (native_of program.now method) (operands_in live.old.frames) world.old live.old }
     ensures comes { (set : Setting) → set.program ≡ program.now → set.limits ≡ limits.now → IfOk result (λ came. Comes task (asks_next set (behind_at task world.old live.old) (operands_in live.old.frames) (native_of program.now method)) world.old live.old world.new live.new came) }
+    ensures suits { IfOk result (SuitsCall (native_of program.now method) (operands_in live.old.frames)) }
     ensures roomy { OnOk result (RoomyIn program.now live.new.frames) }
     ensures counted { OnOk result (IsNear live.old.done live.new.done) }
     ensures room { IfOk result (λ came. HasRoomFor program.now world.new live.new came) }

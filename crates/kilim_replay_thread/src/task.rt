@@ -31,8 +31,14 @@ pub struct Live {
 pub enum Came {
     /// It goes on.
     On,
-    /// It puts the object of that name, with its shape.
+    /// It puts the object of that name, with its shape, into a mailbox. A full one ends it.
     Puts(BoxName, u32, Shape),
+    /// It puts that one, and waits while the mailbox is full.
+    PutsWaiting(BoxName, u32, Shape),
+    /// It would put the object of that name so, but that is too large a tree: it ends.
+    TooLarge(BoxName, u32),
+    /// It bounds the mailbox.
+    Bounds(BoxName, u32),
     Takes(BoxName),
     Probes(BoxName),
     /// It starts the task object of that name, with its shape.

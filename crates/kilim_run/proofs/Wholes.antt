@@ -1,5 +1,5 @@
 -- The journal of a whole run, from what a runner answers.
-use Rattle.std.proofs.Common.{◌≡◌, Bool, true, false, List, refl, sym, subst}
+use Rattle.std.proofs.Common.{◌≡◌, ℕ, Bool, true, false, List, refl, sym, subst}
 use Rattle.kilim_program.specs.declared.names.ClassId.{ClassId}
 use Rattle.kilim_program.specs.Program.{Program}
 use Rattle.kilim_run_state.specs.declared.run.Limits.{Limits}
@@ -12,11 +12,14 @@ use Rattle.kilim_run_model.specs.Runs.{Whole}
 use Rattle.kilim_run_board.specs.Seen.{MovedWhole}
 use Rattle.kilim_fiber.specs.named.Named.{ServesNamed}
 use Rattle.kilim_run_model.specs.one_heap.Laws.{MovedIsWhole}
-use Rattle.kilim_isolation_laws.specs.at_rest.readable.Laws.{RunsAreReadable}
+use Rattle.kilim_isolation_laws.specs.at_rest.readable.Laws.{EntriesAreReadable, RunsAreReadable}
 use Rattle.kilim_run_workers.specs.one_worker.Pool.{IsOf}
 use Rattle.kilim_fiber_body.specs.declared.code.Code.{Code}
 use Rattle.kilim_fiber_laws.specs.Served.{CanServe}
-use Rattle.kilim_run.specs.Runs.{IsJournalOf, setting_of}
+use Rattle.kilim_run_follow.specs.declared.resuming.Resumed.{Resumed}
+use Rattle.kilim_run_follow.specs.declared.resuming.Resumed.TheVariants as resumed
+use Rattle.kilim_run_follow.specs.Resuming.{WentOn}
+use Rattle.kilim_run.specs.Runs.{IsCourseOf, IsJournalOf, IsResumed, IsStopped, ResumedFits, setting_of}
 
 -- what the parts of a code serve, the code serves
 pub can_of : (plain W : Program) (marks : List (List Bool)) (main : ClassId) (limits : Limits) (code : Code) → code.plain ≡ plain → code.program ≡ W → code.counted ≡ marks → CanServe (setting_of plain main limits) W marks → CanServe (setting_of code.plain main limits) code.program code.counted
@@ -44,3 +47,10 @@ is_journal law readable set W marks can es moved fits = record {
   readable = subst IsReadable (sym moved.parts) (readable set moved.entries moved.waits moved.state moved.replay moved.at_rest);
   fits = fits;
 }
+
+pub is_course : EntriesAreReadable → (set : Setting) (few : ℕ) (es : List Entry) → IsStopped set few es → JournalFits es → IsCourseOf set few es
+is_course readable set few es stopped fits = record { stopped = stopped; readable = readable set es stopped.state stopped.replay; fits = fits }
+
+pub is_resumed : MovedIsWhole → RunsAreReadable → (Of : Setting → Type 0) (set : Setting) → Of set → (W : Program) (marks : List (List Bool)) → CanServe set W marks → (given : List Entry) (r : Resumed) → WentOn Of given r → ResumedFits r → IsResumed set given r
+is_resumed law readable Of set of W marks can given (resumed.Journal es) went fits = (is_journal law readable set W marks can es.items (went.0 set of) fits, went.1)
+is_resumed law readable Of set of W marks can given (resumed.Differs n) went fits = went set of

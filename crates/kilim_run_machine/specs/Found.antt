@@ -97,6 +97,7 @@ handed_out =
     ∷ false ∷ true ∷ true
     ∷ false ∷ true ∷ true ∷ true
     ∷ true ∷ true ∷ true ∷ true ∷ true ∷ true ∷ false
+    ∷ false ∷ false ∷ false ∷ false ∷ false ∷ false ∷ false ∷ false ∷ false ∷ false ∷ false
     ∷ []
 
 abbrev pub fiber_handed_out : List Bool

@@ -4,7 +4,7 @@
 -- An exception goes to the first entry, in the order of the table, of the top frame whose range has the place of the
 -- instruction and which catches the object's class; the object is then alone on the stack. Where there is none, the frame is
 -- dropped, and the one below is tried at its call. Where no frame is left, the task ends.
-use Rattle.std.specs.Prelude.{◌≡◌, ◌⊎◌, ℕ, Bool, true, ◌&&◌, ◌==◌, nat_le, nat_lt, if◌then◌else◌, List, [], ◌∷◌, Option, Some, None, codes}
+use Rattle.std.specs.Prelude.{◌≡◌, ◌⊎◌, ℕ, Bool, true, ◌&&◌, ◌==◌, if◌then◌else◌, List, [], ◌∷◌, Option, Some, None, codes}
 use Rattle.std.specs.List.{list_all, list_any}
 use Rattle.std.specs.Str.{bytes_eq}
 use Rattle.kilim_program.specs.declared.class.Handler.{Handler}
@@ -14,7 +14,7 @@ use Rattle.kilim_program.specs.declared.instr.Instr.TheVariants.{Invokevirtual}
 use Rattle.kilim_program.specs.declared.names.ClassId.{ClassId}
 use Rattle.kilim_program.specs.declared.value.Value.{Value}
 use Rattle.kilim_program.specs.Program.{Program}
-use Rattle.kilim_program.specs.Fits.{is_named}
+pub use Rattle.kilim_program.specs.Handlers.{covers, is_throwable}
 use Rattle.kilim_program.specs.Lengths.{fetched}
 use Rattle.kilim_program.specs.Names.{◌>>=◌, class_name, class_named, is_empty, line_of, method_at}
 use Rattle.kilim_run_state.specs.declared.cause.EndCause.{EndCause}
@@ -87,9 +87,6 @@ abbrev pub catches_class : Program → Option ClassId → ClassId → Bool
 catches_class p None c = true
 catches_class p (Some d) c = list_any (λ (e : ClassId). e.0 == d.0) (line_of p c)
 
-abbrev pub covers : Handler → ℕ → Bool
-covers h at = nat_le h.start at && nat_lt at h.end
-
 abbrev pub catches : Program → ClassId → ℕ → Handler → Bool
 catches p c at h = covers h at && catches_class p h.catch c
 
@@ -97,10 +94,6 @@ catches p c at h = covers h at && catches_class p h.catch c
 abbrev pub handler_of : Program → ClassId → ℕ → List Handler → Option Handler
 handler_of p c at [] = None
 handler_of p c at (h ∷ hs) = if catches p c at h then Some h else handler_of p c at hs
-
--- a class that may be caught
-abbrev pub is_throwable : Program → ClassId → Bool
-is_throwable p c = list_any (is_named p (codes "java/lang/Throwable")) (line_of p c)
 
 abbrev pub IsEntry : List Handler → Handler → Type 0
 IsEntry [] h = ⊥

@@ -6,7 +6,7 @@ use Rattle.kilim_program.specs.declared.names.FieldId.{FieldId}
 use Rattle.kilim_run_state.specs.declared.value.Object.{Object}
 use Rattle.kilim_run_state.specs.declared.value.Token.{Token}
 use Rattle.kilim_program.specs.declared.value.Value.{Value}
-use Rattle.kilim_program.specs.declared.value.Value.TheVariants.{Ref, Box}
+use Rattle.kilim_program.specs.declared.value.Value.TheVariants.{Ref, Box, Fiber}
 use Rattle.kilim_run_state.specs.Machine.{Objects, Activation}
 use Rattle.kilim_program.specs.Members.{shown_name}
 use Rattle.kilim_run_machine.specs.Natives.{Native, native_of}
@@ -55,6 +55,8 @@ pub record IsGivenTree (p : Program) (root : Root) (heap : Objects) (n : ℕ) : 
 abbrev pub given : Option Native → List Value → Option (Root × ℕ)
 given (Some native.Put) (Box box ∷ Ref n ∷ []) = Some (OfMessage, n)
 given (Some native.PutWait) (Box box ∷ Ref n ∷ []) = Some (OfMessage, n)
+-- in woven form
+given (Some native.PutWait) (Box box ∷ Ref n ∷ Fiber ∷ []) = Some (OfMessage, n)
 given (Some native.Start) (Ref n ∷ []) = Some (OfTask, n)
 given n args = None
 

@@ -6,5 +6,5 @@ pub mod one_worker;
 mod run;
 mod worker;
 
-pub use many_workers::run_pool;
+pub use many_workers::{go_on, run_pool};
 pub use run::{Run, RunBoard};

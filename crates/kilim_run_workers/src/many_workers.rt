@@ -2,11 +2,12 @@
 
 ghost use Rattle.std.specs.Prelude.{◌≡◌, ◌<◌, ◌≤◌, ℕ, true, false, List, [], All, IfOk, length, replicate, slice_index_or};
 ghost use Rattle.kilim_run_model.specs.State.{Setting};
-ghost use Rattle.kilim_run_board.specs.Board.{IsQuiet};
-ghost use Rattle.kilim_run_board.specs.Seen.{seen, MovedWhole};
+ghost use Rattle.kilim_run_board.specs.Board.{BoardStands, IsQuiet};
+ghost use Rattle.kilim_run_board.specs.Seen.{seen, IsRoomy, MovedWhole};
 ghost use Rattle.kilim_run_turn.specs.declared.pass.Pass.{Pass};
 ghost use Rattle.kilim_run_turn.specs.Turns.{seat_of, shows, IsPassOf, AreAllOf};
 ghost use Rattle.kilim_run_workers.specs.Codes.{board_cells};
+ghost use Rattle.kilim_run_workers.specs.Given.{BeginsWith, Continues};
 ghost use Rattle.kilim_run_workers.specs.one_worker.Pool.{IsOf};
 ghost use Rattle.kilim_run_workers.specs.Runs.{RunsOn};
 ghost use Rattle.kilim_run_workers.specs.Workers.{MayRun, MayWork, HasWorked};
@@ -15,8 +16,8 @@ use crate::run::{Run, RunBoard};
 use crate::worker::run_worker;
 use kilim_outside::Gate;
 use kilim_program::ClassId;
-use kilim_run_board::Lent;
 use kilim_run_board::fibers::Fibers;
+use kilim_run_board::{Board, Lent};
 use kilim_run_journal::Entry;
 use kilim_run_state::Limits;
 use kilim_run_turn::{Pass, Turn};
@@ -127,7 +128,8 @@ fn run_rounds<F: Fibers + Send, K: Run + Send, R: Threads + Wait + Sync, G: Gate
 where
     F::Code: Sync,
     requires may { MayRun F.serves K.of code.now limits.now workers board }
-    ensures { (set : Setting) → K.of set → IfOk result (λ es. MovedWhole set es.items) }
+    ensures whole { (set : Setting) → K.of set → IfOk result (λ es. MovedWhole set es.items) }
+    ensures begins { IfOk result (λ es. BeginsWith K.given es.items) }
 {
     let mut board = board;
     for _ in rt.forever() {
@@ -162,6 +164,7 @@ where
     requires workers { (1 ≤ workers) × (workers ≤ 16) }
     requires some { (set : Setting) × K.of set }
     requires run { (set : Setting) → K.of set → IsOf F.serves code.now main limits.now set }
+    requires none { K.given ≡ [] }
     ensures { (set : Setting) → K.of set → IfOk result (λ es. MovedWhole set es.items) }
 {
     let Ok(fiber) = F::boot(alloc, code, main) else {
@@ -190,4 +193,56 @@ where
     ensures { (set : Setting) → IsOf F.serves code.now main limits.now set → IfOk result (λ es. MovedWhole set es.items) }
 {
     run_of::<F, Brand, R, G>(rt, alloc, code, main, limits, workers, gate)
+}
+
+// A run that `K` names, from a board of it on.
+fn go_on_of<F: Fibers + Send, K: Run + Send, R: Threads + Wait + Sync, G: Gate>(
+    rt: &R,
+    alloc: Global,
+    code: &F::Code,
+    main: ClassId,
+    limits: &Limits,
+    board: Board<F>,
+    workers: usize,
+    gate: &G,
+) -> Result<Vec<Entry>, NoMemory>
+where
+    F::Code: Sync,
+    requires workers { (1 ≤ workers) × (workers ≤ 16) }
+    requires some { (set : Setting) × K.of set }
+    requires run { (set : Setting) → K.of set → IsOf F.serves code.now main limits.now set }
+    requires roomy { IsRoomy board }
+    requires stands { (set : Setting) → K.of set → BoardStands F.task_of F.course_of F.holds set (seen board) }
+    requires continues { Continues K.given (seen board) }
+    requires free { board_cells board ≡ replicate workers [] }
+    ensures whole { (set : Setting) → K.of set → IfOk result (λ es. MovedWhole set es.items) }
+    ensures begins { IfOk result (λ es. BeginsWith K.given es.items) }
+{
+    let _ = main;
+    let board = RunBoard::<F, K>::of_board(board);
+    run_rounds(rt, alloc, board, workers, code, limits, gate)
+}
+
+/// Runs a board on with so many workers, until its run is over: the journal of a whole run that begins with the board's. It may wait.
+pub fn go_on<F: Fibers + Send, R: Threads + Wait + Sync, G: Gate>(
+    rt: &R,
+    alloc: Global,
+    code: &F::Code,
+    main: ClassId,
+    limits: &Limits,
+    board: Board<F>,
+    workers: usize,
+    gate: &G,
+) -> Result<Vec<Entry>, NoMemory>
+where
+    F::Code: Sync,
+    requires workers { (1 ≤ workers) × (workers ≤ 16) }
+    requires some { (set : Setting) × IsOf F.serves code.now main limits.now set }
+    requires roomy { IsRoomy board }
+    requires stands { (set : Setting) → IsOf F.serves code.now main limits.now set → BoardStands F.task_of F.course_of F.holds set (seen board) }
+    requires free { board_cells board ≡ replicate workers [] }
+    ensures whole { (set : Setting) → IsOf F.serves code.now main limits.now set → IfOk result (λ es. MovedWhole set es.items) }
+    ensures begins { IfOk result (λ es. BeginsWith board.journal.items es.items) }
+{
+    go_on_of::<F, Brand, R, G>(rt, alloc, code, main, limits, board, workers, gate)
 }

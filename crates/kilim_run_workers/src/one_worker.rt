@@ -1,8 +1,11 @@
 //! The runner: one worker takes every turn, until no fiber is ready.
 
-ghost use Rattle.std.specs.Prelude.{◌≡◌, ◌<◌, ◌≤◌, ◌∷◌, [], ℕ, Bool, true, false, Option, Some, None, OnOk, IfOk, List};
+ghost use Rattle.std.specs.Prelude.{◌≡◌, ◌<◌, ◌≤◌, ◌∷◌, [], ℕ, Bool, true, false, Option, Some, None, OnOk, IfOk, List, length, ◌⊎◌};
 ghost use Rattle.kilim_run_model.specs.State.{Setting};
 ghost use Rattle.kilim_run_board.specs.Seen.{MovedWhole, seen};
+ghost use Rattle.kilim_run_journal.specs.declared.entry.Entry.{Entry as Event};
+ghost use Rattle.kilim_run_model.specs.Moving.{Moving, MovedAtRest, MovedReplay};
+ghost use Rattle.kilim_run_workers.specs.Given.{BeginsWith, EndsInOne, Grew, MadeBy, RestsWaiting};
 ghost use Rattle.kilim_run_workers.specs.one_worker.Pool.{IsOf, IsLending, IsResting, NextIs, IsCalm, WaitsAt, Falls, todo, left};
 
 use kilim_outside::Gate;
@@ -17,7 +20,7 @@ use std::alloc::Global;
 
 /// What a lent fiber comes to.
 #[derive(Drop)]
-pub(crate) enum Next {
+pub enum Next {
     /// It was answered, and goes on.
     On,
     /// Its task has ended.
@@ -26,8 +29,8 @@ pub(crate) enum Next {
     Rests(Option<Waits>),
 }
 
-// Runs a lent fiber up to the next thing that it wants, and does that.
-fn advance<F: Fibers>(
+/// Runs a lent fiber up to the next thing that it wants, and does that. The error is want of memory.
+pub fn advance<F: Fibers>(
     board: &mut Board<F>,
     fiber: &mut F,
     code: &F::Code,
@@ -40,6 +43,10 @@ fn advance<F: Fibers>(
     requires waits { WaitsAt F.refused board.old fiber.old }
     ensures next { IfOk result (λ next. NextIs F.task_of F.course_of F.holds (IsOf F.serves code.now main limits.now) board.new fiber.new next) }
     ensures falls { IfOk result (λ next. Falls F.count_of F.refused limits.now.steps (todo F.count_of F.refused limits.now.steps board.old fiber.old) board.new fiber.new next) }
+    ensures task { OnOk result (F.task_of fiber.new ≡ F.task_of fiber.old) }
+    ensures made { IfOk result (MadeBy (F.task_of fiber.old) board.old.journal.items board.new.journal.items (F.refused fiber.new)) }
+    ensures waiting { IfOk result (RestsWaiting board.new) }
+    ensures alone { OnOk result (board.old.parked.items ≡ [] → board.new.parked.items ≡ []) }
 {
     let Ok(wants) = fiber.resume(code, limits) else {
         return Err(NoMemory);
@@ -72,8 +79,8 @@ fn advance<F: Fibers>(
     }
 }
 
-// Runs a lent fiber until it rests or ends.
-fn run_fiber<F: Fibers>(
+/// Runs a lent fiber until it rests or ends. The error is want of memory.
+pub fn run_fiber<F: Fibers>(
     board: &mut Board<F>,
     fiber: F,
     code: &F::Code,
@@ -86,6 +93,7 @@ fn run_fiber<F: Fibers>(
     requires waits { WaitsAt F.refused board.old fiber }
     ensures rest { OnOk result (IsResting F.task_of F.course_of F.holds (IsOf F.serves code.now main limits.now) board.new) }
     ensures falls { OnOk result (IsCalm F.refused (seen board.new) × (left F.count_of limits.now.steps (seen board.new) ≤ todo F.count_of F.refused limits.now.steps board.old fiber)) }
+    ensures grows { OnOk result (Grew (F.task_of fiber) board.old.journal.items board.new.journal.items) }
 {
     let mut fiber = fiber;
     loop {
@@ -99,6 +107,103 @@ fn run_fiber<F: Fibers>(
                 board.give_back(0, fiber, waits);
                 return Ok(());
             }
+        }
+    }
+}
+
+/// Runs a board with one seat on until no fiber is ready: the journal of a whole run of moved messages, which begins with the
+/// board's. It takes no turn, waits for nobody and returns. Before each fiber that it runs it passes the gate, which changes
+/// nothing.
+///
+/// The error is want of memory alone.
+pub fn go_on_one<F: Fibers, G: Gate>(
+    code: &F::Code,
+    main: ClassId,
+    limits: &Limits,
+    board: Board<F>,
+    gate: &G,
+) -> Result<Vec<Entry>, NoMemory>
+    requires some { (set : Setting) × IsOf F.serves code.now main limits.now set }
+    requires resting { IsResting F.task_of F.course_of F.holds (IsOf F.serves code.now main limits.now) board }
+    requires calm { IsCalm F.refused (seen board) }
+    ensures whole { (set : Setting) → IsOf F.serves code.now main limits.now set → IfOk result (λ es. MovedWhole set es.items) }
+    ensures begins { IfOk result (λ es. BeginsWith board.journal.items es.items) }
+{
+    let mut board = board;
+    loop {
+        match board.lend(0) {
+            Lent::Fiber(fiber) => {
+                gate.pass(fiber.task(), fiber.records());
+                match run_fiber(&mut board, fiber, code, limits, main) {
+                    Ok(()) => {}
+                    Err(fault) => {
+                        drop(board);
+                        return Err(fault);
+                    }
+                }
+            }
+            _ => return board.finish(),
+        }
+    }
+}
+
+// The journal as it is.
+fn into_entries<F: Fibers>(board: Board<F>) -> Vec<Entry>
+    ensures { result.items ≡ board.journal.items }
+{
+    let Board {
+        journal,
+        tasks: _,
+        ready,
+        parked,
+        mailboxes,
+        cells,
+        stopped: _,
+    } = board;
+    drop(ready);
+    drop(parked);
+    drop(mailboxes);
+    drop(cells);
+    journal
+}
+
+/// Runs a program with one worker until no fiber is lent and the journal has so many entries, or until no fiber is ready: the
+/// journal as it is then.
+pub fn run_some<F: Fibers, G: Gate>(
+    alloc: Global,
+    code: &F::Code,
+    main: ClassId,
+    limits: &Limits,
+    entries: u64,
+    gate: &G,
+) -> Result<Vec<Entry>, NoMemory>
+    requires some { (set : Setting) × IsOf F.serves code.now main limits.now set }
+    ensures moved { (set : Setting) → IsOf F.serves code.now main limits.now set → IfOk result (λ es. (v : Moving) × MovedReplay set es.items v × (entries ≤ length es.items ⊎ (waits : List Event) × MovedAtRest set v waits)) }
+    ensures last { IfOk result (λ es. (es.items ≡ []) ⊎ EndsInOne entries es.items) }
+{
+    let Ok(fiber) = F::boot(alloc, code, main) else {
+        return Err(NoMemory);
+    };
+    let mut board = match Board::new(alloc, fiber, 1) {
+        Ok(board) => board,
+        Err(_) => return Err(NoMemory),
+    };
+    loop {
+        if board.journal.len() as u64 >= entries {
+            return Ok(into_entries(board));
+        }
+        match board.lend(0) {
+            Lent::Fiber(fiber) => {
+                gate.pass(fiber.task(), fiber.records());
+                match run_fiber(&mut board, fiber, code, limits, main) {
+                    Ok(()) => {}
+                    Err(fault) => {
+                        drop(board);
+                        return Err(fault);
+                    }
+                }
+            }
+            _ => return Ok(into_entries(board)),
         }
     }
 }
@@ -120,23 +225,9 @@ pub fn run_one<F: Fibers, G: Gate>(
     let Ok(fiber) = F::boot(alloc, code, main) else {
         return Err(NoMemory);
     };
-    let mut board = match Board::new(alloc, fiber, 1) {
+    let board = match Board::new(alloc, fiber, 1) {
         Ok(board) => board,
         Err(_) => return Err(NoMemory),
     };
-    loop {
-        match board.lend(0) {
-            Lent::Fiber(fiber) => {
-                gate.pass(fiber.task(), fiber.records());
-                match run_fiber(&mut board, fiber, code, limits, main) {
-                    Ok(()) => {}
-                    Err(fault) => {
-                        drop(board);
-                        return Err(fault);
-                    }
-                }
-            }
-            _ => return board.finish(),
-        }
-    }
+    go_on_one(code, main, limits, board, gate)
 }

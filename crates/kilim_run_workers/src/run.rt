@@ -5,11 +5,13 @@ ghost use Rattle.kilim_run_model.specs.State.{Setting};
 ghost use Rattle.kilim_run_model.specs.Course.{Course};
 ghost use Rattle.kilim_run_model.specs.declared.deed.Beginning.TheVariants.{Boot};
 ghost use Rattle.kilim_run_board.specs.fibers.Fibers.{StartsAtNone};
-ghost use Rattle.kilim_run_board.specs.Seen.{seen, LendAnswers, LentStands, wish_in, MovedWhole};
-ghost use Rattle.kilim_run_board.specs.Board.{IsQuiet};
+ghost use Rattle.kilim_run_board.specs.Seen.{seen, IsRoomy, LendAnswers, LentStands, wish_in, MovedWhole};
+ghost use Rattle.kilim_run_board.specs.Board.{BoardStands, IsQuiet};
+ghost use Rattle.kilim_run_journal.specs.declared.entry.Entry.{Entry as AnEntry};
 ghost use Rattle.kilim_run_turn.specs.Views.{cell_at};
 ghost use Rattle.kilim_run_turn.specs.Turns.{KeepsOthers};
 ghost use Rattle.kilim_run_workers.specs.Codes.{board_cells, lent_numbers};
+ghost use Rattle.kilim_run_workers.specs.Given.{BeginsWith, Continues};
 ghost use Rattle.kilim_run_workers.specs.Runs.{fiber_numbers, AllStand, AllRest, AllMeet, IsTaken, ActedAs};
 
 use kilim_run_board::fibers::{Fibers, Wants};
@@ -25,10 +27,14 @@ use std::marker::{Brand, Model, PhantomData};
 pub trait Run {
     /// The settings of the run: those whose program is that of its code, with its main class and its limits.
     ghost of: { Setting → Type 0 };
+    /// The entries with which its journal begins.
+    ghost given: { List AnEntry };
 }
 
 impl Run for Brand {
     ghost of = { λ set. ⊥ };
+
+    ghost given = { [] };
 }
 
 /// A board of the run that `K` names: in each setting of the run it stands for a state of the program.
@@ -43,6 +49,7 @@ impl<F: Fibers, K: Run> Model for RunBoard<F, K> {
     ghost use Rattle.kilim_run_board.specs.fibers.Fibers.{StartsAtNone};
     ghost use Rattle.kilim_run_board.specs.Seen.{seen, IsRoomy};
     ghost use Rattle.kilim_run_board.specs.Board.{BoardStands};
+    ghost use Rattle.kilim_run_workers.specs.Given.{Continues};
     ghost use Rattle.kilim_run_model.specs.State.{Setting};
     ghost use Rattle.std.specs.Coded.{codes};
     ghost use Rattle.std_collections.specs.Layout.BTreeMap.{btree_map_code};
@@ -54,7 +61,7 @@ impl<F: Fibers, K: Run> Model for RunBoard<F, K> {
 
     ghost view = { λ r. r.board };
 
-    ghost invariant = { λ r. IsRoomy r.board × ((set : Setting) → K.of set → BoardStands F.task_of F.course_of F.holds set (seen r.board)) };
+    ghost invariant = { λ r. IsRoomy r.board × ((set : Setting) → K.of set → BoardStands F.task_of F.course_of F.holds set (seen r.board)) × Continues K.given (seen r.board) };
 }
 
 impl<F: Fibers, K: Run> Cells for RunBoard<F, K> {
@@ -73,6 +80,7 @@ impl<F: Fibers, K: Run> RunBoard<F, K> {
         requires task { F.task_of main ≡ 0 }
         requires course { F.course_of main ≡ record { beginning = Boot; deeds = [] } }
         requires stands { AllStand F.task_of F.course_of F.holds K.of main }
+        requires none { K.given ≡ [] }
         ensures { IfOk result (λ b. board_cells b ≡ replicate seats []) }
     {
         match Board::new(alloc, main, seats) {
@@ -81,6 +89,19 @@ impl<F: Fibers, K: Run> RunBoard<F, K> {
                 of: PhantomData,
             }),
             Err(_) => Err(NoMemory),
+        }
+    }
+
+    /// A board that stands in each setting of the run, and whose journal begins with the given entries, as a board of the run.
+    pub fn of_board(board: Board<F>) -> Self
+        requires roomy { IsRoomy board }
+        requires stands { (set : Setting) → K.of set → BoardStands F.task_of F.course_of F.holds set (seen board) }
+        requires continues { Continues K.given (seen board) }
+        ensures { result ≡ board }
+    {
+        RunBoard {
+            board,
+            of: PhantomData,
         }
     }
 
@@ -139,7 +160,8 @@ impl<F: Fibers, K: Run> RunBoard<F, K> {
     pub fn finish(self) -> Result<Vec<Entry>, NoMemory>
         requires running { self.stopped ≡ false }
         requires quiet { IsQuiet (seen self) }
-        ensures { (set : Setting) → K.of set → IfOk result (λ es. MovedWhole set es.items) }
+        ensures whole { (set : Setting) → K.of set → IfOk result (λ es. MovedWhole set es.items) }
+        ensures begins { IfOk result (λ es. BeginsWith K.given es.items) }
     {
         self.board.finish()
     }

@@ -2,6 +2,7 @@ pub mod checked_runs
 pub mod instruction_examples
 pub mod link_examples
 pub mod linked_weaving
+pub mod mailbox_histories
 pub mod run_examples
 pub mod serving_weaver
 pub mod weaving

@@ -1,1 +1,3 @@
+pub mod Bounds
+pub mod Caught
 pub mod States

@@ -1,8 +1,22 @@
 //! Examples that pin what a run is. No program calls these laws to do work.
 
+ghost use Rattle.kilim_theorems.specs.run_examples.Bounds.{BoundsAtEdges};
+ghost use Rattle.kilim_theorems.specs.run_examples.Caught.{CaughtCountsOnce};
 ghost use Rattle.kilim_theorems.specs.run_examples.States.{StatesAreJudged};
 
 /// A law, and no work: states in which an object is shared aren't isolated, each for one way of sharing, and one in which none is, is.
 pub fn states_are_judged()
     ensures { StatesAreJudged }
+{}
+
+/// A law, and no work: an exception that is caught counts as one instruction, whether an instruction raises it, `athrow` throws it, or a
+/// built-in method raises it.
+pub fn caught_counts_once()
+    ensures { CaughtCountsOnce }
+{}
+
+/// A law, and no work: what happens at a mailbox that has a bound: when it is full, which bounds there are, what the two puts do there, and
+/// who waits.
+pub fn bounds_at_edges()
+    ensures { BoundsAtEdges }
 {}

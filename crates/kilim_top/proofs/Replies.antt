@@ -47,8 +47,8 @@ use Rattle.kilim_top.proofs.WholeRun.{to_run}
 
 module _ (both : NeverBoth) (one : OneProgramOf) (weavable : NeverWeavableAndReported) (replays : NeverWholeAndReported) (woven : WovenIsNotReported) where
   never_run : (main : List ℕ) (workers steps : ℕ) (args : List ℤ) (names files : List (List ℕ)) (text : List ℕ) → IsFitRun main files → IsReport (Run main workers steps args names) files text → ⊥
-  never_run main workers steps args names files text fit (inl stage) = woven names files text fit.program fit.accepted fit.none (inl stage)
-  never_run main workers steps args names files text fit (inr (inl method)) = woven names files text fit.program fit.accepted fit.none (inr method)
+  never_run main workers steps args names files text fit (inl stage) = woven names files text fit.program fit.accepted fit.weavable (inl stage)
+  never_run main workers steps args names files text fit (inr (inl method)) = woven names files text fit.program fit.accepted fit.weavable (inr method)
   never_run main workers steps args names files text fit (inr (inr other)) =
       let same = one files fit.program other.program fit.accepted.of_files other.accepted.of_files in
       other.none fit.class (subst (λ (p : Program). class_named p (utf16_of main) ≡ Some fit.class) same fit.named) (subst (λ (p : Program). is_fit_main p fit.class ≡ true) same fit.fit)
@@ -71,7 +71,9 @@ fit_of (Check names) files made text done = (done.1.program, done.1.accepted)
 fit_of (Weave to names) files made text done =
     let woven = done.weaving.are_woven in
     record { program = woven.program; accepted = woven.accepted; none = woven.none; classes = woven.classes; are_files = woven.are_files; fit = woven.fit }
-fit_of (Run main workers steps args names) files made text done = done.1.0
+fit_of (Run main workers steps args names) files made text done =
+    let whole = done.1 in
+    record { program = whole.program; accepted = whole.accepted; weavable = whole.weavable; class = whole.class; named = whole.named; fit = whole.fit }
 fit_of (Replay main journal steps args names) files made text done = done.1.whole
 fit_of (Demo number workers) files made text done = (done.1.program, done.1.accepted, done.1.none)
 
@@ -166,10 +168,17 @@ pub refused_run : (main : List ℕ) (workers steps : ℕ) (args : List ℤ) (nam
 refused_run main workers steps args names files refusal r said by = refused_ready (Run main workers steps args names) files refusal r (run_refused main workers steps args names files refusal said) by
 
 -- woven files
-pub woven_reply : (to : List ℕ) (names files : List (List ℕ)) (made : List OutputFile) (text : List ℕ) → AcceptedFilesAreIsolated → length files ≤ 1000 → IsWeaving to files made text → IsReplyFor (Weave to names) files 0 made text
-woven_reply to names files made text law few weaving =
+pub woven_reply : (to : List ℕ) (names files : List (List ℕ)) (made : List OutputFile) (text : List ℕ) → AcceptedFilesAreIsolated → WovenIsServed → length files ≤ 1000 → IsWeaving to files made text → IsReplyFor (Weave to names) files 0 made text
+woven_reply to names files made text law served few weaving =
     let woven = weaving.are_woven in
-    inl (refl, record { program = woven.program; accepted = woven.accepted; isolated = λ class fit limits live sound. law files woven.program few woven.accepted class fit limits live sound; weaving = weaving })
+    inl (
+      refl,
+      record {
+        weaving = weaving;
+        isolated = λ class fit limits live sound. law files woven.program few woven.accepted class fit limits live sound;
+        serves = λ class fit limits. (served files woven.program woven.woven few woven.accepted woven.weaves class fit limits).runs;
+      },
+    )
 
 -- ---- a journal that is replayed
 

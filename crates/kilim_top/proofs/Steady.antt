@@ -17,8 +17,8 @@ module _ (request : Option Request) (old new : Outside) (still : new.failed ≡ 
 
   no_fault : (status : ℕ) → Promises request old new status → (status ≡ 0) ⊎ ((status ≡ 1) ⊎ ((status ≡ 2) ⊎ (status ≡ 5)))
   no_fault status p =
-      six status p.known (λ e. inl e) (λ e. inr (inl e)) (λ e. inr (inr (inl e))) (λ e. absurd (no_read request (p.read e)))
-      (λ e. let w = p.write e in absurd (faulty w.0.made w.0.text old new w.0.how_far w.1 still quiet)) (λ e. inr (inr (inr e)))
+      six status p.known (λ e. inl e) (λ e. inr (inl e)) (λ e. inr (inr (inl e))) (λ e. absurd (no_read request (p.only_unread e)))
+      (λ e. let w = p.only_unwritten e in absurd (faulty w.0.made w.0.text old new w.0.how_far w.1 still quiet)) (λ e. inr (inr (inr e)))
 
 some_of : (status : ℕ) → (status ≡ 0) ⊎ ((status ≡ 1) ⊎ ((status ≡ 2) ⊎ (status ≡ 5))) → (Some status ≡ None) ⊎ ((Some status ≡ Some 0) ⊎ ((Some status ≡ Some 1) ⊎ ((Some status ≡ Some 2) ⊎ (Some status ≡ Some 5))))
 some_of status (inl e) = inr (inl (ap (λ (n : ℕ). Some n) e))

@@ -1,11 +1,11 @@
 -- From the bytes that were read to what the folder held.
-use Rattle.std.proofs.Common.{◌≡◌, ℕ, zero, suc, ◌≤◌, arith, List, [], ◌∷◌, ◌++◌, length, length-append, map, Option, Some, None, refl, sym, ap, subst, ◌∙◌, inl, inr, ◌⊎◌, slice_index_or}
+use Rattle.std.proofs.Common.{◌≡◌, ℕ, zero, suc, ◌≤◌, arith, List, [], ◌∷◌, ◌++◌, length, length-append, Option, Some, None, refl, sym, ap, subst, ◌∙◌, inl, inr, ◌⊎◌, slice_index_or}
 use Rattle.std.specs.Prelude.{Contains}
 use Rattle.kilim_outside.specs.Causes.{Rose}
 use Rattle.kilim_outside.specs.declared.folder.FailedCall.{FailedCall}
 use Rattle.kilim_outside.specs.declared.folder.FailedCall.TheVariants.{Write}
 use Rattle.kilim_outside.specs.Files.{Files}
-use Rattle.kilim_command.specs.grammar.Words.{Request, files_read}
+use Rattle.kilim_command.specs.grammar.Words.{Request, Check, Weave, Run, Replay, Demo, files_read}
 use Rattle.kilim_outside.specs.written.OutputFile.{OutputFile}
 use Rattle.kilim_top.specs.Inside.Respond.{Wrote0, Wrote1, WroteFrontOf, Responded}
 use Rattle.kilim_command.specs.Reads.{WereRead}
@@ -67,11 +67,19 @@ wrote_front work files old new were wrote = record {
 }
 
 pub unfit : (contents : Option Files) (work : Request) (files : List (List ℕ)) → WereRead contents (files_read work) files → (IsFitFor work files → ⊥) → IsFit contents (Some work) → ⊥
-unfit None work files were not_fit fit = fit
+unfit contents (Demo number workers) files were not_fit fit = not_fit fit
+unfit None (Check names) files were not_fit fit = fit
+unfit None (Weave to names) files were not_fit fit = fit
+unfit None (Run main workers steps args names) files were not_fit fit = fit
+unfit None (Replay main journal steps args names) files were not_fit fit = fit
 unfit (Some held) work files were not_fit fit = not_fit (subst (λ (bs : List (List ℕ)). IsFitFor work bs) (read_is held (files_read work) files were) fit)
 
 pub unreported : (contents : Option Files) (work : Request) (files : List (List ℕ)) → WereRead contents (files_read work) files → ((text : List ℕ) → IsReport work files text → ⊥) → HasReport contents (Some work) → ⊥
-unreported None work files were none has = has
+unreported contents (Demo number workers) files were none has = none has.0 has.1
+unreported None (Check names) files were none has = has
+unreported None (Weave to names) files were none has = has
+unreported None (Run main workers steps args names) files were none has = has
+unreported None (Replay main journal steps args names) files were none has = has
 unreported (Some held) work files were none has = none has.0 (subst (λ (bs : List (List ℕ)). IsReport work bs has.0) (read_is held (files_read work) files were) has.1)
 
 -- ---- the promises, at each end of the work
@@ -157,12 +165,12 @@ responded_at work files old new status were r = record {
   usage = (λ e. absurd (r.not_usage e), λ e. absurd (some_work work e));
   whole = λ e. wrote_text work files old new were (r.whole e);
   report = λ e. wrote_report work files old new were (r.report e);
-  read = λ e. absurd (r.not_unread e);
+  only_unread = λ e. absurd (r.not_unread e);
   nothing = λ e. absurd (neither status e r.not_usage r.not_unread);
-  write = λ e. let w = r.write e in (wrote_front work files old new were w.0, w.1);
+  only_unwritten = λ e. let w = r.write e in (wrote_front work files old new were w.0, w.1);
   memory = λ e. inr (wrote_front work files old new were (r.memory e));
-  quiet = r.quiet;
-  were_read = r.failed;
+  sink_is_quiet = r.quiet;
+  folder_is_quiet = r.failed;
   contents = λ e. r.contents (no_files_at e);
   calls = six status r.known (λ e. inl (r.failed (inl e))) (λ e. inl (r.failed (inr e))) (λ e. absurd (r.not_usage e)) (λ e. absurd (r.not_unread e))
       (λ e. let w = r.write e in calls_by work files old new w.0.made w.0.text were w.0.to_write w.0.how_far) (λ e. let w = r.memory e in calls_by work files old new w.made w.text were w.to_write w.how_far);

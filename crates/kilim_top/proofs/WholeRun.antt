@@ -17,19 +17,19 @@ use Rattle.kilim_fiber_laws.specs.Served.{CanServe}
 use Rattle.kilim_stages.specs.woven_stage.Stage.{IsWovenOf}
 use Rattle.kilim_stages.specs.declared.woven_stage.stage.WovenProgram.{WovenProgram}
 use Rattle.kilim_top.specs.Inside.Answer.{IsMainOf, IsTextOf, IsToRun}
-use Rattle.kilim_top.specs.Outcome.{IsFitRun, IsIsolatedRun, IsWholeRun}
+use Rattle.kilim_top.specs.Outcome.{IsIsolatedRun, IsWholeRun}
 use Rattle.kilim_command.specs.Report.{utf16_of}
 use Rattle.kilim_command.specs.Words.{limits_of}
 
-fit_run : (main : List ℕ) (files : List (List ℕ)) (p : Program) (class : ClassId) → IsAcceptedOf files p → weave_fault p ≡ None → class_named p (utf16_of main) ≡ Some class → is_fit_main p class ≡ true → IsFitRun main files
-fit_run main files p class of none named fit = record { program = p; accepted = of; none = none; class = class; named = named; fit = fit }
-
-whole_run : (main : List ℕ) (limits : Limits) (files : List (List ℕ)) (p : Program) (class : ClassId) (text : List ℕ) → IsAcceptedOf files p → class_named p (utf16_of main) ≡ Some class → IsIsolatedRun p class limits → IsTextOf None (setting_of p class limits) text → IsWholeRun main limits files text
-whole_run main limits files p class text of named isolated run = record {
+whole_run : (main : List ℕ) (limits : Limits) (files : List (List ℕ)) (p : Program) (class : ClassId) (text : List ℕ) → IsAcceptedOf files p → weave_fault p ≡ None → class_named p (utf16_of main) ≡ Some class → is_fit_main p class ≡ true →
+    IsIsolatedRun p class limits → IsTextOf None (setting_of p class limits) text → IsWholeRun main limits files text
+whole_run main limits files p class text of none named fit isolated run = record {
   program = p;
   accepted = of;
+  weavable = none;
   class = class;
   named = named;
+  fit = fit;
   journal = run.journal;
   whole = run.is.whole;
   isolated = isolated;
@@ -52,9 +52,6 @@ module _ (law : AcceptedFilesAreIsolated) (serves : WovenIsServed) (files : List
     served = served set.main (limits_of steps args) set w is.fit is.is is.is_woven;
     done = λ text run. (
       refl,
-      (
-        fit_run main files p.plain set.main of.accepted of.none is.named is.fit,
-        whole_run main (limits_of steps args) files p.plain set.main text of.accepted is.named (isolated set.main (limits_of steps args) is.fit) (subst (λ (s : Setting). IsTextOf None s text) is.is run),
-      ),
+      whole_run main (limits_of steps args) files p.plain set.main text of.accepted of.none is.named is.fit (isolated set.main (limits_of steps args) is.fit) (subst (λ (s : Setting). IsTextOf None s text) is.is run),
     );
   }

@@ -28,6 +28,8 @@ use Rattle.kilim_outside.specs.written.OutputFile.{OutputFile}
 use Rattle.kilim_outside.specs.written.Written.{HasFailed, StoppedAtFile, WroteFiles}
 use Rattle.kilim_weave_file_command.specs.Weaving.{IsWeavable, IsWeaving}
 use Rattle.kilim_weave.specs.Faults.{weave_fault}
+use Rattle.kilim_weave.specs.declared.weaving.Woven.{Woven}
+use Rattle.kilim_fiber_laws.specs.woven_served.Served.{ServesRun}
 use Rattle.kilim_weave_file_command.specs.woven_files.Reports.{IsWeaveReport}
 use Rattle.kilim_stages.specs.woven_stage.Reports.{IsMethodReport}
 use Rattle.kilim_replay_command.specs.Replay.{IsReplayReport, IsReplayed, IsWholeJournal}
@@ -65,14 +67,21 @@ AreLive program live = TopLive program live.top × LowerLive program live.below
 abbrev pub IsIsolatedRun : Program → ClassId → Limits → Type 0
 IsIsolatedRun program main limits = (live : Liveness) → AreLive program live → PlaysIsolated live (run_of program main limits)
 
+-- Whatever happens to the program's tasks, and wherever they pause: a fiber of the woven program does what its task does.
+abbrev pub IsServedRun : Program → Woven → ClassId → Limits → Type 0
+IsServedRun program woven main limits = ServesRun (run_of program main limits) woven.program woven.counted
+
 -- ---- the text of the work that was done
 
--- the text is that of the journal of a whole run, of the accepted program to which these class files link and that main class
+-- The text is that of the journal of a whole run. The class files link to an accepted program, each of whose methods can be woven;
+-- its class of that name is fit to be the main class, and is the run's.
 pub record IsWholeRun (main : List ℕ) (limits : Limits) (files : List (List ℕ)) (text : List ℕ) : Type 0 where
   pub program : Program
   pub accepted : IsAcceptedOf files program
+  pub weavable : weave_fault program ≡ None
   pub class : ClassId
   pub named : class_named program (utf16_of main) ≡ Some class
+  pub fit : is_fit_main program class ≡ true
   pub journal : List Entry
   pub whole : Whole (run_of program class limits) journal
   pub isolated : IsIsolatedRun program class limits
@@ -85,7 +94,7 @@ pub record IsWholeRun (main : List ℕ) (limits : Limits) (files : List (List �
 pub record IsFitRun (main : List ℕ) (files : List (List ℕ)) : Type 0 where
   pub program : Program
   pub accepted : IsAcceptedOf files program
-  pub none : weave_fault program ≡ None
+  pub weavable : weave_fault program ≡ None
   pub class : ClassId
   pub named : class_named program (utf16_of main) ≡ Some class
   pub fit : is_fit_main program class ≡ true
@@ -101,13 +110,12 @@ pub record IsCheck (files : List (List ℕ)) (text : List ℕ) : Type 0 where
   pub isolated : (class : ClassId) → is_fit_main program class ≡ true → (limits : Limits) → IsIsolatedRun program class limits
   pub is_text : text ≡ accepted_line (length files) (coded_methods program)
 
--- The class files link to an accepted program, none of whose runs shares an object. These are their woven files, below that
--- directory, and their lines.
+-- The class files link to an accepted program, and these are their woven files, below that directory, and their lines. In each of
+-- its runs no object is shared, and fibers of the woven program, which is that of the woven files, do what its threads do.
 pub record IsWeave (to : List ℕ) (files : List (List ℕ)) (made : List OutputFile) (text : List ℕ) : Type 0 where
-  pub program : Program
-  pub accepted : IsAcceptedOf files program
-  pub isolated : (class : ClassId) → is_fit_main program class ≡ true → (limits : Limits) → IsIsolatedRun program class limits
   pub weaving : IsWeaving to files made text
+  pub isolated : (class : ClassId) → is_fit_main weaving.are_woven.program class ≡ true → (limits : Limits) → IsIsolatedRun weaving.are_woven.program class limits
+  pub serves : (class : ClassId) → is_fit_main weaving.are_woven.program class ≡ true → (limits : Limits) → IsServedRun weaving.are_woven.program weaving.are_woven.woven class limits
 
 -- of what is read to replay a journal: the class files, as many as there are names, and the journal's text behind them
 abbrev pub class_texts : (names files : List (List ℕ)) → List (List ℕ)
@@ -132,7 +140,7 @@ IsFitFor (Demo number workers) files = (program : Program) × IsAcceptedOf (demo
 abbrev pub IsDone : Request → List (List ℕ) → List OutputFile → List ℕ → Type 0
 IsDone (Check names) files made text = (made ≡ []) × IsCheck files text
 IsDone (Weave to names) files made text = IsWeave to files made text
-IsDone (Run main workers steps args names) files made text = (made ≡ []) × (IsFitRun main files × IsWholeRun main (limits_of steps args) files text)
+IsDone (Run main workers steps args names) files made text = (made ≡ []) × IsWholeRun main (limits_of steps args) files text
 IsDone (Replay main journal steps args names) files made text = (made ≡ []) × IsReplayed (utf16_of main) (limits_of steps args) (class_texts names files) (text_behind names files) text
 IsDone (Demo number workers) files made text = (made ≡ []) × IsDemoLine number text
 
@@ -268,13 +276,16 @@ FailedAtMost request old new = (new.failed ≡ old.failed) ⊎ (ReadFailed reque
 abbrev pub read_of : Files → List (List ℕ) → List (List ℕ)
 read_of held names = map (λ name. take file_limit (content_of held name)) names
 
--- The words are in the grammar, and the work can be done. This speaks of a folder that tells what it holds.
+-- The words are in the grammar, and the work can be done. This speaks of a folder that tells what it holds; of the demo, which reads no
+-- file, it speaks over every folder.
 abbrev pub IsFit : Option Files → Option Request → Type 0
+IsFit contents (Some (Demo number workers)) = IsFitFor (Demo number workers) []
 IsFit (Some held) (Some work) = IsFitFor work (read_of held (files_read work))
 IsFit contents request = ⊥
 
--- A stage has a fault. This speaks of a folder that tells what it holds.
+-- A stage has a fault, of a folder that tells what it holds, and of the demo over every folder.
 abbrev pub HasReport : Option Files → Option Request → Type 0
+HasReport contents (Some (Demo number workers)) = (text : List ℕ) × IsReport (Demo number workers) [] text
 HasReport (Some held) (Some work) = (text : List ℕ) × IsReport work (read_of held (files_read work)) text
 HasReport contents request = ⊥
 
@@ -290,14 +301,14 @@ pub record Promises (request : Option Request) (old new : Outside) (status : ℕ
   pub whole : status ≡ DONE → WroteText request old new
   pub report : status ≡ REPORTED → WroteReport request old new
   -- only where a file that the words name can't be read
-  pub read : status ≡ UNREAD → ReadFailed request old.failed new.failed
+  pub only_unread : status ≡ UNREAD → ReadFailed request old.failed new.failed
   pub nothing : (status ≡ USAGE) ⊎ (status ≡ UNREAD) → new.written ≡ old.written
   -- only where the sink failed, or the write of a file that is made
-  pub write : status ≡ UNWRITTEN → (front : WroteFront request old new) × IsFault front.made front.text old new front.how_far
+  pub only_unwritten : status ≡ UNWRITTEN → (front : WroteFront request old new) × IsFault front.made front.text old new front.how_far
   pub memory : status ≡ NO_MEMORY → WroteNothing old new ⊎ WroteFront request old new
   -- no fault of the outside is passed over: the first one ends the work
-  pub quiet : (status ≡ DONE) ⊎ (status ≡ REPORTED) → new.faults ≡ old.faults
-  pub were_read : (status ≡ DONE) ⊎ (status ≡ REPORTED) → new.failed ≡ old.failed
+  pub sink_is_quiet : (status ≡ DONE) ⊎ (status ≡ REPORTED) → new.faults ≡ old.faults
+  pub folder_is_quiet : (status ≡ DONE) ⊎ (status ≡ REPORTED) → new.failed ≡ old.failed
   -- no file changes where the words ask for none to be written, or one of these statuses is answered
   pub contents : (AsksForFiles request → ⊥) ⊎ ((status ≡ REPORTED) ⊎ ((status ≡ USAGE) ⊎ (status ≡ UNREAD))) → new.contents ≡ old.contents
   -- no name is read but those that the words give, and none is written but those of the files that are made

@@ -120,6 +120,7 @@ fn weave_ready(alloc: Global, words: &WeaveWords<'_>, files: &[Seq<u8>]) -> Resu
     ensures { IfOk result (λ ready. IsReadyFor (Weave words.now.to.now (map string_bytes words.now.files.now)) files.now ready) }
 {
     accepted_files_are_isolated();
+    woven_is_served();
     match weave_files(alloc, words.to, words.files, files) {
         Ok(output) => Ok(Ready::Reply(Reply {
             status: DONE,

@@ -1,6 +1,6 @@
 //! The top call.
 
-ghost use Rattle.std.specs.Prelude.{◌≡◌, ◌⊎◌, Some, None, [], map, IsSome, IfSome};
+ghost use Rattle.std.specs.Prelude.{◌≡◌, ◌⊎◌, ◌↔◌, Some, None, [], map, IfSome};
 ghost use Rattle.std.specs.String.{string_bytes};
 ghost use Rattle.kilim_outside.specs.Files.{files_of};
 ghost use Rattle.kilim_command.specs.grammar.Words.{request_of};
@@ -35,8 +35,7 @@ pub fn kilim_alone<F: Folder, K: TextSink, G: Gate>(
     out: &mut K,
     gate: &G,
 ) -> Option<u8>
-    ensures needs { result ≡ None → NeedsWorkers (request_of (map string_bytes words.now.items)) }
-    ensures alone { (NeedsWorkers (request_of (map string_bytes words.now.items)) → ⊥) → IsSome result }
+    ensures needs { (result ≡ None) ↔ NeedsWorkers (request_of (map string_bytes words.now.items)) }
     ensures promises { IfSome result (λ status. Promises (request_of (map string_bytes words.now.items)) (shown (F.contents files.old) (F.faults files.old) (K.written out.old) (K.faults out.old)) (shown (F.contents files.new) (F.faults files.new) (K.written out.new) (K.faults out.new)) status) }
     ensures untouched { (result ≡ None) ⊎ (result ≡ Some USAGE) ⊎ (result ≡ Some UNREAD) → out.new ≡ out.old }
     ensures unread { (result ≡ None) ⊎ (result ≡ Some USAGE) → files.new ≡ files.old }
@@ -58,8 +57,7 @@ pub fn kilim_in_memory<G: Gate>(
     out: &mut SteadySink,
     gate: &G,
 ) -> Option<u8>
-    ensures needs { result ≡ None → NeedsWorkers (request_of (map string_bytes words.now.items)) }
-    ensures alone { (NeedsWorkers (request_of (map string_bytes words.now.items)) → ⊥) → IsSome result }
+    ensures needs { (result ≡ None) ↔ NeedsWorkers (request_of (map string_bytes words.now.items)) }
     ensures promises { IfSome result (λ status. Promises (request_of (map string_bytes words.now.items)) (shown (Some (files_of files.old.files)) [] (Some out.old.bytes) 0) (shown (Some (files_of files.new.files)) [] (Some out.new.bytes) 0) status) }
     ensures one_of { (result ≡ None) ⊎ (result ≡ Some DONE) ⊎ (result ≡ Some REPORTED) ⊎ (result ≡ Some USAGE) ⊎ (result ≡ Some NO_MEMORY) }
     ensures untouched { (result ≡ None) ⊎ (result ≡ Some USAGE) → out.new ≡ out.old }
@@ -69,8 +67,8 @@ pub fn kilim_in_memory<G: Gate>(
     kilim_alone(alloc, words, files, out, gate)
 }
 
-/// Does what the words ask for, a run with as many workers as they say: with one it is what `kilim_alone` answers. It takes a
-/// runtime, and may wait.
+/// Does what the words ask for, a run with as many workers as they say: it is what `kilim_alone` does, where that answers a status. It
+/// takes a runtime, and may wait.
 pub fn kilim<R: Threads + Wait + Sync, F: Folder, K: TextSink, G: Gate>(
     rt: &R,
     alloc: Global,
@@ -83,6 +81,9 @@ pub fn kilim<R: Threads + Wait + Sync, F: Folder, K: TextSink, G: Gate>(
     ensures untouched { (result ≡ USAGE) ⊎ (result ≡ UNREAD) → out.new ≡ out.old }
     ensures unread { result ≡ USAGE → files.new ≡ files.old }
 {
+    if let Some(status) = kilim_alone(alloc, words, files, out, gate) {
+        return status;
+    }
     let Some(asked) = request(words.as_slice()) else {
         return USAGE;
     };

@@ -22,8 +22,8 @@ use Rattle.kilim_type_spec.specs.Step.{Types, peek}
 use Rattle.kilim_type_laws.specs.Laws.{AssignsItself}
 
 has_classes : (form : Form) (a b : ℕ) → (n : ℕ) × (length (built_in_classes_in form a b) ≡ suc n)
-has_classes Plain a b = (6, refl)
-has_classes Woven a b = (7, refl)
+has_classes Plain a b = (17, refl)
+has_classes Woven a b = (18, refl)
 
 some_class : (p : Program) → Keeps p → (n : ℕ) × (length p.classes ≡ suc n)
 some_class p keeps =

@@ -13,7 +13,8 @@ use Rattle.kilim_program.specs.declared.names.MethodId.{MethodId}
 use Rattle.kilim_program.specs.declared.ty.Base.TheVariants as base
 use Rattle.kilim_program.specs.declared.ty.Qualifier.TheVariants.{Safe}
 use Rattle.kilim_program.specs.Program.{Program}
-use Rattle.kilim_program.specs.BuiltIn.{built_in_classes_in, built_in_method, built_in_methods_in, class_id, class_type, fiber_params, fiber_qualifiers, fiber_type, int_type, on_fiber, plain_type}
+use Rattle.kilim_program.specs.BuiltIn.{built_in_classes_in, built_in_method, built_in_methods_in, class_id, class_type, exception_numbers, fiber_methods, fiber_params, fiber_qualifiers, fiber_type, int_type, on_fiber, plain_type}
+use Rattle.kilim_program.proofs.BuiltIns.{constructors_too}
 use Rattle.kilim_program.specs.Names.{class_name, method_at}
 use Rattle.kilim_program.specs.Keeps.{Keeps}
 use Rattle.kilim_run_machine.specs.Natives.{is_built_in_constructor, is_handed_out}
@@ -75,7 +76,7 @@ module _ (p : Program) where
                                       handed (built_in_method (codes "arg") (class_id (n + 6)) (int_type ∷ []) (Some int_type) true false Safe (Safe ∷ [])) (codes "kilim/Sys") sys refl,
                                       (
                                         (λ s h. (class_id (n + 2), refl, refl)),
-                                        tt,
+                                        constructors_too (TakesOnly p) n exception_numbers [] (λ c s h. absurd (let z : false ≡ true = s in cc)) tt,
                                       ),
                                     ),
                                   ),
@@ -95,7 +96,7 @@ module _ (p : Program) where
       ),
     )
 
-    takes_woven : class_name p (class_id (n + 7)) ≡ codes "kilim/Fiber" → AllByRecursion (TakesOnly p) (built_in_methods_in Woven n)
+    takes_woven : class_name p (class_id (n + 18)) ≡ codes "kilim/Fiber" → AllByRecursion (TakesOnly p) (built_in_methods_in Woven n)
     takes_woven fiber = (
       (λ s h. absurd (let z : false ≡ true = s in cc)),
       (
@@ -132,7 +133,7 @@ module _ (p : Program) where
                                       handed (built_in_method (codes "arg") (class_id (n + 6)) (int_type ∷ []) (Some int_type) true false Safe (Safe ∷ [])) (codes "kilim/Sys") sys refl,
                                       (
                                         (λ s h. (class_id (n + 2), refl, refl)),
-                                        (
+                                        constructors_too (TakesOnly p) n exception_numbers (fiber_methods Woven n) (λ c s h. absurd (let z : false ≡ true = s in cc)) (
                                           (λ s h. absurd (let z : false ≡ true = s in cc)),
                                           (
                                             (λ s h. absurd (let z : false ≡ true = s in cc)),
@@ -145,7 +146,7 @@ module _ (p : Program) where
                                                   (
                                                     handed (on_fiber n (codes "saveA") (class_type n)) (codes "kilim/Fiber") fiber refl,
                                                     (
-                                                      handed (built_in_method (codes "place") (class_id (n + 7)) (int_type ∷ class_type n ∷ fiber_type n ∷ []) None true false Safe (Safe ∷ Safe ∷ Safe ∷ [])) (codes "kilim/Fiber") fiber refl,
+                                                      handed (built_in_method (codes "place") (class_id (n + 18)) (int_type ∷ class_type n ∷ fiber_type n ∷ []) None true false Safe (Safe ∷ Safe ∷ Safe ∷ [])) (codes "kilim/Fiber") fiber refl,
                                                       (
                                                         (λ s h. absurd (let z : false ≡ true = s in cc)),
                                                         (
@@ -203,7 +204,7 @@ sys_at : (form : Form) (a b : ℕ) → NamedAt form a b 6 (codes "kilim/Sys")
 sys_at Plain a b = record { class = _; at = refl; is = refl }
 sys_at Woven a b = record { class = _; at = refl; is = refl }
 
-pub fiber_at : (a b : ℕ) → NamedAt Woven a b 7 (codes "kilim/Fiber")
+pub fiber_at : (a b : ℕ) → NamedAt Woven a b 18 (codes "kilim/Fiber")
 fiber_at a b = record { class = _; at = refl; is = refl }
 
 module _ (p : Program) (keeps : Keeps p) where
@@ -220,7 +221,7 @@ module _ (p : Program) (keeps : Keeps p) where
 
   all_take : (form : Form) → p.form ≡ form → AllByRecursion (TakesOnly p) (built_in_methods_in form n)
   all_take Plain is = takes_plain p n (named_at Plain is 6 (codes "kilim/Sys") (sys_at Plain n (length keeps.built_in.own_methods)))
-  all_take Woven is = takes_woven p n (named_at Woven is 6 (codes "kilim/Sys") (sys_at Woven n (length keeps.built_in.own_methods))) (named_at Woven is 7 (codes "kilim/Fiber") (fiber_at n (length keeps.built_in.own_methods)))
+  all_take Woven is = takes_woven p n (named_at Woven is 6 (codes "kilim/Sys") (sys_at Woven n (length keeps.built_in.own_methods))) (named_at Woven is 18 (codes "kilim/Fiber") (fiber_at n (length keeps.built_in.own_methods)))
 
   pub none_built_in : list_all (λ m. not m.built_in) keeps.built_in.own_methods ≡ true
   none_built_in = all_weaker p (own_body p) (λ m. not m.built_in) (λ m e. (and_parts (not m.built_in) _ e).0) keeps.built_in.own_methods keeps.built_in.bodies

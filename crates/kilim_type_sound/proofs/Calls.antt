@@ -165,10 +165,10 @@ module _ (p : Program) (facts : Facts p) (m : Method) (of : Classes) (h : Object
   B i = Before p m of h live at next f ls vs i
 
   abbrev After : Instr → Effect → Type 0
-  After i e = EffectFits p m of live (edges i next) g e
+  After i e = EffectFits p m of live next ls h (edges i next) g e
 
   abbrev At : Instr → List VType → Effect → Type 0
-  At i s e = EffectFits p m of live (edges i next) (record f { stack = s }) e
+  At i s e = EffectFits p m of live next ls h (edges i next) (record f { stack = s }) e
 
   module _ (i : Instr) (b : B i) (w : (k : ℕ) → writes i k ≡ false) (on : Among (edges i next) next) where
     -- the caller waits for the result
@@ -191,6 +191,8 @@ module _ (p : Program) (facts : Facts p) (m : Method) (of : Classes) (h : Object
           code = facts.bodies id callee there own (facts.statics id callee there static);
           arguments = subst (λ (z : Bool). have_types p callee of ((cond z [] (cond (is_constructor callee) UninitThis (class_vtype callee.owner) ∷ [])) ++ map vtype callee.params) (reverse xs) ≡ true) (sym static) (same_arguments p m callee of callee.params (reverse xs) e);
           goes = awaits callee.result ts rest t;
+          behind = refl;
+          same = refl;
         }))
       where
         append_none : (os : List Operand) → os ++ [] ≡ os
@@ -213,6 +215,8 @@ module _ (p : Program) (facts : Facts p) (m : Method) (of : Classes) (h : Object
           built_in = own;
           arguments = subst (λ (z : Bool). have_types p callee of ((cond z [] (class_vtype callee.owner ∷ [])) ++ map vtype callee.params) (reverse xs) ≡ true) (sym static) (same_arguments p m callee of callee.params (reverse xs) e);
           goes = awaits callee.result ts rest t;
+          behind = refl;
+          same = refl;
         }))
       where
         append_none : (os : List Operand) → os ++ [] ≡ os
@@ -246,7 +250,7 @@ module _ (p : Program) (facts : Facts p) (m : Method) (of : Classes) (h : Object
         goes = subst (λ (r : Option Ty). GoesOn p m of live (edges i next) (record f { stack = result_types named.result ++ ts }) (result_awaited r) next ls rest h) (sym s.result) (awaits named.result ts rest t)
 
         by : (z : Bool) → s.method.built_in ≡ z → (s.method.built_in ≡ true) ⊎ ((s.method.built_in ≡ false) × (has_code s.method ≡ true)) → At i (result_types named.result ++ ts) (cond z (Asks id (v ∷ args) next ls rest h) (Calls id (v ∷ args) next ls rest h))
-        by true z c = record { callee = s.method; there = s.there; built_in = z; arguments = subst (λ (y : Bool). have_types p s.method of (cond y [] (class_vtype s.method.owner ∷ []) ++ map vtype s.method.params) (v ∷ args) ≡ true) (sym s.instance) typed; goes = goes }
+        by true z c = record { callee = s.method; there = s.there; built_in = z; arguments = subst (λ (y : Bool). have_types p s.method of (cond y [] (class_vtype s.method.owner ∷ []) ++ map vtype s.method.params) (v ∷ args) ≡ true) (sym s.instance) typed; goes = goes; behind = refl; same = refl }
         by false z (inl c) = absurd (cc)
         by false z (inr c) = record {
           callee = s.method;
@@ -255,6 +259,8 @@ module _ (p : Program) (facts : Facts p) (m : Method) (of : Classes) (h : Object
           arguments = subst (λ (y : Bool). have_types p s.method of ((cond y [] (cond (is_constructor s.method) UninitThis (class_vtype s.method.owner) ∷ [])) ++ map vtype s.method.params) (v ∷ args) ≡ true) (sym s.instance)
               (subst (λ (y : Bool). have_types p s.method of ((cond y UninitThis (class_vtype s.method.owner) ∷ []) ++ map vtype s.method.params) (v ∷ args) ≡ true) (sym s.plain) typed);
           goes = goes;
+          behind = refl;
+          same = refl;
         }
 
     instances_of : (d : ℕ) (c : Base) (o : _) → ContentFits p of d c o → has_instances p d c ≡ true

@@ -30,7 +30,9 @@ use Rattle.kilim_run_machine.specs.Does.{is_mailbox}
 use Rattle.kilim_run_state.specs.Objects.{new_object, first_field, first_value, first_value_of}
 use Rattle.kilim_type_spec.specs.Step.{Types, Operand, Is, Further, further, needs, rule, Makes as MakesRow, Constructs, by_row, arguments, result_types, vtype, class_vtype, is_same, one_replaced, replaced, peek, made_at, is_class, superclass_at, constructed, may_make, has_room, room_for, has_operands, all_meet}
 use Rattle.kilim_type_spec.specs.Typed.{writes, edges, Among}
-use Rattle.kilim_type_sound.specs.Fits.{Classes, is_of, is_made, refers, has_type, have_types, Holds, LocalsFit, HeapFits, FieldFits, FieldsFit, has_objects, Nothing, AReference, result_awaited, StackFits, is_value_of}
+use Rattle.kilim_type_sound.specs.Fits.{Classes, is_of, is_made, refers, has_type, have_types, Holds, LocalsFit, HeapFits, FieldFits, FieldsFit, has_objects, ObjectFits, Nothing, AReference, result_awaited, StackFits, is_value_of}
+use Rattle.kilim_program.specs.declared.ty.Base.{Base}
+use Rattle.kilim_program.specs.declared.ty.Base.TheVariants as base
 use Rattle.kilim_program.specs.Fits.{is_reference_base}
 use Rattle.kilim_type_sound.specs.Sound.{GoesOn, EffectFits}
 use Rattle.kilim_type_sound.specs.Facts.{Facts}
@@ -38,7 +40,6 @@ use Rattle.kilim_type_sound.proofs.Basics.{passed, ok_is, Furthers, furthers, of
 use Rattle.kilim_type_sound.proofs.Slots.{no_slot}
 use Rattle.kilim_type_sound.proofs.Words.{receiver_is}
 use Rattle.kilim_type_sound.proofs.Calls.{args_took, same_arguments, arguments_are, dims_itself, vtype_no_top}
-use Rattle.kilim_type_sound.proofs.Heap.{zero_fits}
 use Rattle.kilim_type_sound.proofs.Rows.{Before, kept}
 
 same_top : (old : VType) → is_same old Top ≡ false
@@ -159,12 +160,48 @@ module _ (p : Program) (m : Method) (of : Classes) where
   this_of callee (Uninit q) value.Fiber s k e = (k _ e, refl)
   this_of callee t v s k e = absurd (cc)
 
+-- ---- new objects
+
+module _ (p : Program) (of : Classes) where
+  first_fits : (b : Base) → is_value_of p of (record { dims = 0; base = b }) (first_value_of b) ≡ true
+  first_fits base.Bool = refl
+  first_fits base.Byte = refl
+  first_fits base.Char = refl
+  first_fits base.Short = refl
+  first_fits base.Int = refl
+  first_fits base.Long = refl
+  first_fits (base.Class c) = refl
+
+  made_fields : (fs : List FieldId) → FieldsFit p of (filter (is_instance_field p) fs) (map (first_field p) (filter (is_instance_field p) fs))
+  made_fields [] = tt
+  made_fields (x ∷ fs) = by (field_of p x) refl (made_fields fs)
+    where
+      zero_typed : (ty : Ty) → is_value_of p of ty (first_value ty) ≡ true
+      zero_typed ty = by_zero (eqb ty.dims 0) refl
+        where
+          by_zero : (z : Bool) → eqb ty.dims 0 ≡ z → is_value_of p of ty (cond z (first_value_of ty.base) value.Null) ≡ true
+          by_zero true e = subst (λ (d : ℕ). is_value_of p of (record { dims = d; base = ty.base }) (first_value_of ty.base) ≡ true) (sym (eqb-true ty.dims 0 e)) (first_fits ty.base)
+          by_zero false e = ap (λ (z : Bool). not z || is_reference_base ty.base) e
+
+      by : (o : Option Field) → field_of p x ≡ o → FieldsFit p of (filter (is_instance_field p) fs) (map (first_field p) (filter (is_instance_field p) fs)) →
+          FieldsFit p of (cond (elim o [ None ↦ false | Some field ↦ not field.is_static ]) (x ∷ filter (is_instance_field p) fs) (filter (is_instance_field p) fs)) (map (first_field p) (cond (elim o [ None ↦ false | Some field ↦ not field.is_static ]) (x ∷ filter (is_instance_field p) fs) (filter (is_instance_field p) fs)))
+      by None e others = others
+      by (Some field) e others = by_static (not field.is_static)
+        where
+          by_static : (z : Bool) → FieldsFit p of (cond z (x ∷ filter (is_instance_field p) fs) (filter (is_instance_field p) fs)) (map (first_field p) (cond z (x ∷ filter (is_instance_field p) fs) (filter (is_instance_field p) fs)))
+          by_static true = (refl, subst (λ (o : Option Field). FieldFits p of o (elim o [ None ↦ value.Null | Some y ↦ first_value y.ty ])) (sym e) (zero_typed field.ty), others)
+          by_static false = others
+
+  -- a new object of a class that has objects
+  pub made_fits : (c : ClassId) → has_objects p c ≡ true → ObjectFits p of (new_object p c)
+  made_fits c objects = (objects, made_fields (flat_map (fields_of p) (reverse (line_of p c))), refl)
+
 module _ (p : Program) (facts : Facts p) (m : Method) (of : Classes) (h : Objects) (heap : HeapFits p of h) (live : ℕ → ℕ → Bool) (at next : ℕ) (f g : Types) (ls vs : List Value) where
   abbrev B : Instr → Type 0
   B i = Before p m of h live at next f ls vs i
 
   abbrev After : Instr → Effect → Type 0
-  After i e = EffectFits p m of live (edges i next) g e
+  After i e = EffectFits p m of live next ls h (edges i next) g e
 
   module _ (i : Instr) (b : B i) (w : (k : ℕ) → writes i k ≡ false) (on : Among (edges i next) next) where
     here : LocalsFit p m of (live next) f.locals ls
@@ -301,6 +338,8 @@ module _ (p : Program) (facts : Facts p) (m : Method) (of : Classes) (h : Object
               (subst (λ (z : Bool). have_types p callee of ((cond z UninitThis (class_vtype callee.owner) ∷ []) ++ map vtype callee.params) (v ∷ reverse xs) ≡ true) (sym con)
               (and_from (has_type p callee of UninitThis v) (have_types p callee of (map vtype callee.params) (reverse xs)) d (same_arguments p m callee of callee.params (reverse xs) e)));
           goes = subst (λ (z : Types). GoesOn p m of live (edges i next) z (result_awaited callee.result) next ls rest h) x.fit.after_is (constructed_goes x.fit.old x.fit.new x.fit.u x.fit.s rest callee.result x.fit.becomes s);
+          behind = refl;
+          same = refl;
         }))
 
     pub constructor_built_in : (id : MethodId) (callee : Method) → method_at p id ≡ Some callee → callee.built_in ≡ true → is_constructor callee ≡ true → (before after : List Further) →
@@ -315,26 +354,6 @@ module _ (p : Program) (facts : Facts p) (m : Method) (of : Classes) (h : Object
         (constructed_goes x.fit.old x.fit.new x.fit.u x.fit.s rest callee.result x.fit.becomes s)))
 
     -- ---- new objects
-
-    made_fields : (fs : List FieldId) → FieldsFit p of (filter (is_instance_field p) fs) (map (first_field p) (filter (is_instance_field p) fs))
-    made_fields [] = tt
-    made_fields (x ∷ fs) = by (field_of p x) refl (made_fields fs)
-      where
-        zero_typed : (ty : Ty) → is_value_of p of ty (first_value ty) ≡ true
-        zero_typed ty = by_zero (eqb ty.dims 0) refl
-          where
-            by_zero : (z : Bool) → eqb ty.dims 0 ≡ z → is_value_of p of ty (cond z (first_value_of ty.base) value.Null) ≡ true
-            by_zero true e = subst (λ (d : ℕ). is_value_of p of (record { dims = d; base = ty.base }) (first_value_of ty.base) ≡ true) (sym (eqb-true ty.dims 0 e)) (zero_fits p facts.order m of h heap live at next f g ls vs i b w on ty.base)
-            by_zero false e = ap (λ (z : Bool). not z || is_reference_base ty.base) e
-
-        by : (o : Option Field) → field_of p x ≡ o → FieldsFit p of (filter (is_instance_field p) fs) (map (first_field p) (filter (is_instance_field p) fs)) →
-            FieldsFit p of (cond (elim o [ None ↦ false | Some field ↦ not field.is_static ]) (x ∷ filter (is_instance_field p) fs) (filter (is_instance_field p) fs)) (map (first_field p) (cond (elim o [ None ↦ false | Some field ↦ not field.is_static ]) (x ∷ filter (is_instance_field p) fs) (filter (is_instance_field p) fs)))
-        by None e others = others
-        by (Some field) e others = by_static (not field.is_static)
-          where
-            by_static : (z : Bool) → FieldsFit p of (cond z (x ∷ filter (is_instance_field p) fs) (filter (is_instance_field p) fs)) (map (first_field p) (cond z (x ∷ filter (is_instance_field p) fs) (filter (is_instance_field p) fs)))
-            by_static true = (refl, subst (λ (o : Option Field). FieldFits p of o (elim o [ None ↦ value.Null | Some y ↦ first_value y.ty ])) (sym e) (zero_typed field.ty), others)
-            by_static false = others
 
     -- none of so many tests holds
     four : (a b c d e : Bool) → not (a || (b || (c || (d || e)))) ≡ true → (a ≡ false) × (c ≡ false)
@@ -363,7 +382,7 @@ module _ (p : Program) (facts : Facts p) (m : Method) (of : Classes) (h : Object
         let a = passed 4 (has_room m (Uninit at ∷ f.stack)) (rule 10 (not (list_any (is_same (Uninit at)) f.stack)) (rule 13 (may_make p c (class_at p c)) (Ok go))) g r in
         let d = passed 10 (not (list_any (is_same (Uninit at)) f.stack)) (rule 13 (may_make p c (class_at p c)) (Ok go)) g a.1 in
         let e = passed 13 (may_make p c (class_at p c)) (Ok go) g d.1 in
-        subst (λ (z : Types). EffectFits p m of live (edges i next) z (cond (is_mailbox p c) (Opens next ls vs h) (Makes (new_object p c) next ls vs h))) (ok_is go g e.1) (by (is_mailbox p c) refl e.0)
+        subst (λ (z : Types). EffectFits p m of live next ls h (edges i next) z (cond (is_mailbox p c) (Opens next ls vs h) (Makes (new_object p c) next ls vs h))) (ok_is go g e.1) (by (is_mailbox p c) refl e.0)
       where
         made_of : (k : Option Ty) → is_of p k (class_type c.0) ≡ true → refers p m (Uninit at) k ≡ true
         made_of k e = subst (λ (o : Option ClassId). is_made p k o ≡ true) (sym made) e
@@ -371,6 +390,6 @@ module _ (p : Program) (facts : Facts p) (m : Method) (of : Classes) (h : Object
         goes : (k : Option Ty) → is_of p k (class_type c.0) ≡ true → GoesOn p m of live (edges i next) (record { locals = replaced (Uninit at) Top f.locals; stack = Uninit at ∷ f.stack; unset = f.unset }) (AReference k) next ls vs h
         goes k e = record { among = on; locals = locals_topped p m of (live next) (Uninit at) f.locals ls here; stack = (made_of k e, b.stack); heap = heap }
 
-        by : (z : Bool) → is_mailbox p c ≡ z → may_make p c (class_at p c) ≡ true → EffectFits p m of live (edges i next) (record { locals = replaced (Uninit at) Top f.locals; stack = Uninit at ∷ f.stack; unset = f.unset }) (cond z (Opens next ls vs h) (Makes (new_object p c) next ls vs h))
+        by : (z : Bool) → is_mailbox p c ≡ z → may_make p c (class_at p c) ≡ true → EffectFits p m of live next ls h (edges i next) (record { locals = replaced (Uninit at) Top f.locals; stack = Uninit at ∷ f.stack; unset = f.unset }) (cond z (Opens next ls vs h) (Makes (new_object p c) next ls vs h))
         by true z may = goes (named_type p (codes "kilim/Mailbox")) (subst (λ (o : Option Ty). is_of p o (class_type c.0) ≡ true) (sym (facts.mailbox c z)) (facts.order.itself (class_type c.0)))
-        by false z may = ((made_objects c (class_at p c) refl may z, made_fields (flat_map (fields_of p) (reverse (line_of p c))), refl), goes (Some (class_type c.0)) (facts.order.itself (class_type c.0)))
+        by false z may = (made_fits p of c (made_objects c (class_at p c) refl may z), goes (Some (class_type c.0)) (facts.order.itself (class_type c.0)))

@@ -69,7 +69,7 @@ module _ (p : Program) (order : Ordered p) (m : Method) (of : Classes) (h : Obje
 
   module _ (i : Instr) (b : Before p m of h live at next f ls vs i) (w : (k : ℕ) → writes i k ≡ false) (on : Among (edges i next) next) where
     abbrev After : Effect → Type 0
-    After e = EffectFits p m of live (edges i next) g e
+    After e = EffectFits p m of live next ls h (edges i next) g e
 
     go : ℕ → HeapObject → ℤ → List Value → Effect
     go n o x rest = at_index o.elements x (λ k v. Goes next ls (v ∷ rest) h)
@@ -84,7 +84,7 @@ module _ (p : Program) (order : Ordered p) (m : Method) (of : Classes) (h : Obje
         by value.Null k t = tt
         by (value.Ref n) k t = subst (λ (z : Option HeapObject). After (with_some z (λ o. at_index o.elements x (λ k v. Goes next ls (v ∷ rest) h)))) (sym t.1)
             (index_is p order m of h heap After (λ c. tt) t.0.elements x (λ k v. Goes next ls (v ∷ rest) h) (λ j y e.
-            subst (λ (z : Types). EffectFits p m of live (edges i next) z (Goes next ls (y ∷ rest) h)) (c (vtype (record ty { dims = ty.dims - 1 })) refl)
+            subst (λ (z : Types). EffectFits p m of live next ls h (edges i next) z (Goes next ls (y ∷ rest) h)) (c (vtype (record ty { dims = ty.dims - 1 })) refl)
             (going p order m of h heap live at next f g ls vs i b w next on (vtype (record ty { dims = ty.dims - 1 }) ∷ s) (y ∷ rest)
             (and_from (has_type p m of (vtype (record ty { dims = ty.dims - 1 })) y) (have_types p m of s rest)
             (element_typed t.0.class.dims ty.dims t.0.class.base ty.base (ref_array ty.dims ty.base r) (subst (λ (o : Option Ty). is_of p o ty ≡ true) (heap.classes n t.0 t.1) k) y
@@ -145,14 +145,14 @@ module _ (p : Program) (order : Ordered p) (m : Method) (of : Classes) (h : Obje
     -- ---- `Sys.take`
 
     take_of : (k : ClassId) (ts : List VType) (v : Value) (rest : List Value) (x : ℤ) → has_type p m of (Object (record { dims = 1; base = base.Class k })) v ≡ true → IsThere h v → have_types p m of ts rest ≡ true →
-        EffectFits p m of live (edges i next) (record f { stack = Object (record { dims = 0; base = base.Class k }) ∷ ts }) (as_object v h (λ n o. at_index o.elements x (λ j y. Goes next ls (y ∷ rest) (insert h n (record o { elements = slice_set o.elements j value.Null })))))
+        EffectFits p m of live next ls h (edges i next) (record f { stack = Object (record { dims = 0; base = base.Class k }) ∷ ts }) (as_object v h (λ n o. at_index o.elements x (λ j y. Goes next ls (y ∷ rest) (insert h n (record o { elements = slice_set o.elements j value.Null })))))
     take_of k ts v rest x e t q = by v e t
       where
         arr : Ty
         arr = record { dims = 1; base = base.Class k }
 
         by : (v : Value) → has_type p m of (Object (record { dims = 1; base = base.Class k })) v ≡ true → IsThere h v →
-            EffectFits p m of live (edges i next) (record f { stack = Object (record { dims = 0; base = base.Class k }) ∷ ts }) (as_object v h (λ n o. at_index o.elements x (λ j y. Goes next ls (y ∷ rest) (insert h n (record o { elements = slice_set o.elements j value.Null })))))
+            EffectFits p m of live next ls h (edges i next) (record f { stack = Object (record { dims = 0; base = base.Class k }) ∷ ts }) (as_object v h (λ n o. at_index o.elements x (λ j y. Goes next ls (y ∷ rest) (insert h n (record o { elements = slice_set o.elements j value.Null })))))
         by value.Null e t = tt
         by (value.Int n) e t = absurd (cc)
         by (value.Long n) e t = absurd (cc)
@@ -162,8 +162,8 @@ module _ (p : Program) (order : Ordered p) (m : Method) (of : Classes) (h : Obje
         by (value.Ref n) e t =
             let is : fits_type p t.0.class (record { dims = 1; base = base.Class k }) ≡ true = subst (λ (o : Option Ty). is_of p o (record { dims = 1; base = base.Class k }) ≡ true) (heap.classes n t.0 t.1) e in
             let d = parts t.0.class.dims t.0.class.base (references_below p order m of t.0.class (record { dims = 1; base = base.Class k }) refl is) in
-            subst (λ (z : Option HeapObject). EffectFits p m of live (edges i next) (record f { stack = Object (record { dims = 0; base = base.Class k }) ∷ ts }) (with_some z (λ o. at_index o.elements x (λ j y. Goes next ls (y ∷ rest) (insert h n (record o { elements = slice_set o.elements j value.Null })))))) (sym t.1)
-            (index_is p order m of h heap (λ z. EffectFits p m of live (edges i next) (record f { stack = Object (record { dims = 0; base = base.Class k }) ∷ ts }) z) (λ c. tt) t.0.elements x _ (λ j y g1.
+            subst (λ (z : Option HeapObject). EffectFits p m of live next ls h (edges i next) (record f { stack = Object (record { dims = 0; base = base.Class k }) ∷ ts }) (with_some z (λ o. at_index o.elements x (λ j y. Goes next ls (y ∷ rest) (insert h n (record o { elements = slice_set o.elements j value.Null })))))) (sym t.1)
+            (index_is p order m of h heap (λ z. EffectFits p m of live next ls h (edges i next) (record f { stack = Object (record { dims = 0; base = base.Class k }) ∷ ts }) z) (λ c. tt) t.0.elements x _ (λ j y g1.
             writing p order m of h heap live at next f g ls vs i b w on (Object (record { dims = 0; base = base.Class k }) ∷ ts) (y ∷ rest) n t.0 (record t.0 { elements = slice_set t.0.elements j value.Null })
             (and_from (has_type p m of (Object (record { dims = 0; base = base.Class k })) y) (have_types p m of ts rest)
             (element_typed t.0.class.dims 1 t.0.class.base (base.Class k) refl is y (λ q z. all_at p order of heap.proper (is_value_of p of (record { dims = q; base = t.0.class.base })) t.0.elements j y (elements_fit p order of heap.proper t.0 q z (heap.objects n t.0 t.1)) g1)) q)
@@ -173,8 +173,8 @@ module _ (p : Program) (order : Ordered p) (m : Method) (of : Classes) (h : Obje
             (value_of_typed p order m of h heap live at next f g ls vs i b w on (record { dims = d.0; base = t.0.class.base }) value.Null d.2 refl)))))
 
     pub take_row : (k : ClassId) (ts : List VType) → Taken p order m of h (Is Int ∷ Is (Object (record { dims = 1; base = base.Class k })) ∷ []) ts vs →
-        EffectFits p m of live (edges i next) (record f { stack = Object (record { dims = 0; base = base.Class k }) ∷ ts })
+        EffectFits p m of live next ls h (edges i next) (record f { stack = Object (record { dims = 0; base = base.Class k }) ∷ ts })
         (on_int vs (λ i below. on_object below h (λ n o rest. at_index o.elements i (λ j y. Goes next ls (y ∷ rest) (insert h n (record o { elements = slice_set o.elements j value.Null }))))))
-    take_row k ts t = int_took p order m of h heap (λ z. EffectFits p m of live (edges i next) (record f { stack = Object (record { dims = 0; base = base.Class k }) ∷ ts }) z) (λ c. tt) (Is (Object (record { dims = 1; base = base.Class k })) ∷ []) ts vs t _ (λ x below u.
-        value_took p order m of h heap (λ z. EffectFits p m of live (edges i next) (record f { stack = Object (record { dims = 0; base = base.Class k }) ∷ ts }) z) (λ c. tt) (Is (Object (record { dims = 1; base = base.Class k }))) [] ts below u (λ v rest. as_object v h (λ n o. at_index o.elements x (λ j y. Goes next ls (y ∷ rest) (insert h n (record o { elements = slice_set o.elements j value.Null }))))) (λ v e there rest q.
+    take_row k ts t = int_took p order m of h heap (λ z. EffectFits p m of live next ls h (edges i next) (record f { stack = Object (record { dims = 0; base = base.Class k }) ∷ ts }) z) (λ c. tt) (Is (Object (record { dims = 1; base = base.Class k })) ∷ []) ts vs t _ (λ x below u.
+        value_took p order m of h heap (λ z. EffectFits p m of live next ls h (edges i next) (record f { stack = Object (record { dims = 0; base = base.Class k }) ∷ ts }) z) (λ c. tt) (Is (Object (record { dims = 1; base = base.Class k }))) [] ts below u (λ v rest. as_object v h (λ n o. at_index o.elements x (λ j y. Goes next ls (y ∷ rest) (insert h n (record o { elements = slice_set o.elements j value.Null }))))) (λ v e there rest q.
         take_of k ts v rest x e there q))

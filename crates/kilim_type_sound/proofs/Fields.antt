@@ -72,10 +72,10 @@ field_kept p of x field e v t (y ∷ fs) (d ∷ es) f = by (eqb d.0.0 x.0) refl 
 
 module _ (p : Program) (facts : Facts p) (narrows : Narrows) (m : Method) (of : Classes) (h : Objects) (heap : HeapFits p of h) (live : ℕ → ℕ → Bool) (at next : ℕ) (f g : Types) (ls vs : List Value) where
   abbrev After : Instr → Effect → Type 0
-  After i e = EffectFits p m of live (edges i next) g e
+  After i e = EffectFits p m of live next ls h (edges i next) g e
 
   abbrev At : Instr → List VType → Effect → Type 0
-  At i s e = EffectFits p m of live (edges i next) (record f { stack = s }) e
+  At i s e = EffectFits p m of live next ls h (edges i next) (record f { stack = s }) e
 
   pub missing_is : by_row p m at missing f ≡ Ok g → ⊥
   missing_is r = let z = (takes_inverse p m at [] [] (needs 8 false ∷ []) f g r).also_hold.0 in absurd (cc)

@@ -6,6 +6,8 @@ use Rattle.kilim_type_laws.proofs.members.FromKeeps as keeping
 use Rattle.kilim_type_sound.proofs.OwnFields as owned
 use Rattle.kilim_type_sound.proofs.Selecting as selecting
 use Rattle.kilim_type_laws.proofs.members.Through as lines
+use Rattle.kilim_type_sound.proofs.Behind as places
+use Rattle.kilim_type_sound.proofs.Tables as tables
 use Rattle.kilim_type_sound.proofs.Tables.{all_wants, live_wants}
 use Rattle.kilim_type_sound.proofs.TextClass as texts
 use Rattle.kilim_type_sound.proofs.Throwables as throwables
@@ -21,6 +23,9 @@ facts_hold p keeps = record {
   text_class = values.text_class p keeps;
   thrown = throwables.thrown p keeps;
   no_thrown = throwables.no_thrown p keeps;
+  throwable = λ c there k e. throwables.throwable p keeps c there k e;
+  caught = throwables.caught p keeps;
+  raised = λ table index is why c e. absurd (tables.no_table p keeps table);
   order = record { itself = keeping.itself p keeps; through = lines.through p keeps };
   superclass = keeping.superclass p keeps;
   values = values.values p keeps;
@@ -34,7 +39,7 @@ facts_hold p keeps = record {
 }
 
 pub are_verified : AreVerified
-are_verified p typing live keeps typed wants = record { typed = typed; starts = bodies.starts p keeps; wants = wants; proper = bodies.proper p keeps }
+are_verified p typing live keeps typed wants = record { typed = typed; starts = bodies.starts p keeps; wants = wants; proper = bodies.proper p keeps; behind = places.stands_behind_it p keeps }
 
 pub are_wanted : AreWanted
 are_wanted = record { all = all_wants; live = live_wants }

@@ -27,7 +27,7 @@ use Rattle.kilim_program.specs.Same.{is_constructor}
 use Rattle.kilim_program.specs.Members.{named_type}
 use Rattle.kilim_run_machine.specs.Moves.{push_value}
 use Rattle.kilim_type_spec.specs.Step.{vtype, made_at, peek, class_vtype}
-use Rattle.kilim_type_sound.specs.Fits.{Classes, Typing, Wanted, is_of, is_made, refers, has_type, have_types, Holds, is_value_of, FieldFits, FieldsFit, ContentFits, ObjectFits, HeapFits, Awaited, Nothing, AValue, AReference, StackFits, FrameFits, result_awaited, result_of, BelowFit, FramesFit, Fits}
+use Rattle.kilim_type_sound.specs.Fits.{Classes, Typing, Wanted, is_of, is_made, refers, has_type, have_types, Holds, is_value_of, FieldFits, FieldsFit, ContentFits, ObjectFits, HeapFits, Awaited, Nothing, AValue, AReference, StackFits, FrameFits, result_awaited, result_of, BelowFit, FramesFit, StandsAtCall, Fits}
 use Rattle.kilim_program.specs.Lengths.{is_reference_type}
 use Rattle.kilim_type_sound.specs.Sound.{argument_types}
 use Rattle.kilim_type_sound.specs.Facts.{Facts}
@@ -103,9 +103,20 @@ module _ (p : Program) (of more : Classes) (grows : Extends of more) where
       stack = stack_grown f.method w (typing a.method a.place).stack a.stack f.stack;
     }
 
+    stands_grown : (a : Activation) → StandsAtCall p typing live of a → StandsAtCall p typing live more a
+    stands_grown a s = record {
+      method = s.method;
+      there = s.there;
+      code = s.code;
+      call = s.call;
+      here = s.here;
+      behind = s.behind;
+      locals = record { room = s.locals.room; slots = λ k l. holds_grown s.method (peek (typing a.method s.call.0).locals k) (slice_get a.locals k) (s.locals.slots k l) };
+    }
+
     pub below_grown : (r : Option Ty) (as1 : List Activation) → BelowFit p typing live of r as1 → BelowFit p typing live more r as1
     below_grown r [] f = tt
-    below_grown r (a ∷ as1) f = (frame_grown (result_awaited r) a f.0, below_grown (result_of (method_at p a.method)) as1 f.1)
+    below_grown r (a ∷ as1) f = (frame_grown (result_awaited r) a f.0, stands_grown a f.1, below_grown (result_of (method_at p a.method)) as1 f.2)
 
     pub frames_grown : (w : Awaited) (as1 : List Activation) → FramesFit p typing live of w as1 → FramesFit p typing live more w as1
     frames_grown w [] f = tt
@@ -170,7 +181,7 @@ reference_class p of zero base.Int o e = absurd e
 reference_class p of zero base.Long o e = absurd e
 
 module _ (p : Program) (typing : Typing) (live : Wanted) (facts : Facts p) where
-  grown_by : (of : Classes) (n : ℕ) (c : Ty) → of n ≡ None → Extends of (with_class of n c)
+  pub grown_by : (of : Classes) (n : ℕ) (c : Ty) → of n ≡ None → Extends of (with_class of n c)
   grown_by of n c e q d k = by (eqb n q) refl
     where
       by : (z : Bool) → eqb n q ≡ z → cond z (Some c) (of q) ≡ Some d
@@ -185,16 +196,13 @@ module _ (p : Program) (typing : Typing) (live : Wanted) (facts : Facts p) where
   push_typed of ty w v h [] f = tt
   push_typed of ty w v h (a ∷ as1) f = (value_comes_by p typing live facts.order of a (vtype ty) w v (vtype_set ty) h f.0, f.1)
 
-  added : (of : Classes) (object : HeapObject) (frames : List Activation) (h : Objects) (n : ℕ) → of n ≡ None → ObjectFits p of object → FramesFit p typing live of (AReference (Some object.class)) frames → HeapFits p of h →
-      Fits p typing live (with_class of n object.class) (push_value (value.Ref n) frames) (insert h n object)
-  added of object frames h n e o fs heap =
+  -- the heap with one more object
+  pub heap_added : (of : Classes) (object : HeapObject) (h : Objects) (n : ℕ) → of n ≡ None → ObjectFits p of object → HeapFits p of h → HeapFits p (with_class of n object.class) (insert h n object)
+  heap_added of object h n e o heap =
       let more = with_class of n object.class in
       let grows = grown_by of n object.class e in
       let here : more n ≡ Some object.class = ap (λ (z : Bool). cond z (Some object.class) (of n)) (eq-eqb n n refl) in
-      record {
-        frames = push_reference more (Some object.class) (value.Ref n) (λ m t r. subst (λ (k : Option Ty). refers p m t k ≡ true) (sym here) r) frames (frames_grown p of more grows typing live (AReference (Some object.class)) frames fs);
-        heap = came p of more grows h (insert h n object) heap (proper more here) (each more here grows);
-      }
+      came p of more grows h (insert h n object) heap (proper more here) (each more here grows)
     where
       proper : (more : Classes) → more n ≡ Some object.class → (q : ℕ) (c : Ty) → with_class of n object.class q ≡ Some c → is_reference_type c.dims c.base ≡ true
       proper more here q c k = by (eqb n q) k
@@ -211,6 +219,17 @@ module _ (p : Program) (typing : Typing) (live : Wanted) (facts : Facts p) where
         ))
         | inr z ↦ inl (sym (put_other h n object q (λ w. z.1 (sym w))) ∙ g)
       ]
+
+  added : (of : Classes) (object : HeapObject) (frames : List Activation) (h : Objects) (n : ℕ) → of n ≡ None → ObjectFits p of object → FramesFit p typing live of (AReference (Some object.class)) frames → HeapFits p of h →
+      Fits p typing live (with_class of n object.class) (push_value (value.Ref n) frames) (insert h n object)
+  added of object frames h n e o fs heap =
+      let more = with_class of n object.class in
+      let grows = grown_by of n object.class e in
+      let here : more n ≡ Some object.class = ap (λ (z : Bool). cond z (Some object.class) (of n)) (eq-eqb n n refl) in
+      record {
+        frames = push_reference more (Some object.class) (value.Ref n) (λ m t r. subst (λ (k : Option Ty). refers p m t k ≡ true) (sym here) r) frames (frames_grown p of more grows typing live (AReference (Some object.class)) frames fs);
+        heap = heap_added of object h n e o heap;
+      }
 
   same_callee : (id : MethodId) (a b : Method) → method_at p id ≡ Some a → method_at p id ≡ Some b → a ≡ b
   same_callee id a b e d = cc

@@ -44,10 +44,10 @@ module _ (p : Program) (order : Ordered p) (m : Method) (of : Classes) (h : Obje
   B i = Before p m of h live at next f ls vs i
 
   abbrev After : Instr → Effect → Type 0
-  After i e = EffectFits p m of live (edges i next) g e
+  After i e = EffectFits p m of live next ls h (edges i next) g e
 
   abbrev At : Instr → List VType → Effect → Type 0
-  At i s e = EffectFits p m of live (edges i next) (record f { stack = s }) e
+  At i s e = EffectFits p m of live next ls h (edges i next) (record f { stack = s }) e
 
   pub one_dim : (bases : List Base) (ty : Ty) → is_array_of bases ty ≡ true → (ty.dims ≡ 1) × (list_any (same_base ty.base) bases ≡ true)
   one_dim bases ty e = let es = and_parts (eqb ty.dims 1) (list_any (same_base ty.base) bases) e in (eqb-true ty.dims 1 es.0, es.1)

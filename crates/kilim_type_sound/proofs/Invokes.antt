@@ -38,7 +38,7 @@ is_not false e = refl
 
 module _ (p : Program) (facts : Facts p) (m : Method) (of : Classes) (h : Objects) (heap : HeapFits p of h) (live : ℕ → ℕ → Bool) (at next : ℕ) (f g : Types) (ls vs : List Value) where
   abbrev After : Instr → Effect → Type 0
-  After i e = EffectFits p m of live (edges i next) g e
+  After i e = EffectFits p m of live next ls h (edges i next) g e
 
   missing_is : by_row p m at (Takes [] [] (needs 8 false ∷ [])) f ≡ Ok g → ⊥
   missing_is r = let z = (takes_inverse p m at [] [] (needs 8 false ∷ []) f g r).also_hold.0 in absurd (cc)
@@ -85,7 +85,7 @@ module _ (p : Program) (facts : Facts p) (m : Method) (of : Classes) (h : Object
                 let t = facts.takes id callee e own static z in
                 by_takes p facts.order m of h heap live at next f g ls vs i b (arguments callee) (result_types callee.result) (static_rules m callee)
                 (subst (λ (os : List Operand). PlainOperands p facts.order m of os) (sym (taken_types t.0 t.1)) (tt, (tt, tt))) r (takes_effect vs) (λ a ts k.
-                subst (λ (o : Option Ty). EffectFits p m of live (edges i next) (record f { stack = result_types o ++ ts }) (takes_effect vs)) (sym t.2)
+                subst (λ (o : Option Ty). EffectFits p m of live next ls h (edges i next) (record f { stack = result_types o ++ ts }) (takes_effect vs)) (sym t.2)
                 (take_row p facts.order m of h heap live at next f g ls vs i b w on t.0 ts (subst (λ (os : List Operand). Taken p facts.order m of h os ts vs) (taken_types t.0 t.1) k)))
 
     abbrev Goal : Method → Bool → Type 0

@@ -23,7 +23,11 @@ pub mod Bodies
 pub mod BuiltInMembers
 pub mod TextClass
 pub mod Throwables
+pub mod Behind
 pub mod OwnFields
 pub mod Selecting
 pub mod Grounds
 pub mod Caught
+pub mod Raised
+pub mod Left
+pub mod Alike

@@ -30,7 +30,7 @@ module _ (p : Program) (order : Ordered p) (m : Method) (of : Classes) (h : Obje
   B i = Before p m of h live at next f ls vs i
 
   abbrev After : Instr → Effect → Type 0
-  After i e = EffectFits p m of live (edges i next) g e
+  After i e = EffectFits p m of live next ls h (edges i next) g e
 
   abbrev Stored1 : Operand → ℕ → Type 0
   Stored1 o n = Stored p order m of h heap live at next f g ls vs o n
@@ -91,11 +91,11 @@ module _ (p : Program) (order : Ordered p) (m : Method) (of : Classes) (h : Obje
         let c = passed 6 (nat_lt n m.max_locals && meets p (Is Int) (peek f.locals n)) (Ok f) g r in
         let is = met_int p order m of h heap live at next f g ls vs (peek f.locals n) (and_parts (nat_lt n m.max_locals) (meets p (Is Int) (peek f.locals n)) c.0).1 in
         let here : Holds p m of Int (slice_get ls n) = subst (λ (t : VType). Holds p m of t (slice_get ls n)) is (b.locals.slots n (b.wants.read n read)) in
-        subst (λ (z : Types). EffectFits p m of live (edges i next) z (with_some (slice_get ls n) (λ v. as_int v (λ x. Goes next (slice_set ls n (value.Int (op x))) vs h)))) (ok_is f g c.1)
+        subst (λ (z : Types). EffectFits p m of live next ls h (edges i next) z (with_some (slice_get ls n) (λ v. as_int v (λ x. Goes next (slice_set ls n (value.Int (op x))) vs h)))) (ok_is f g c.1)
         (by_slot is (slice_get ls n) refl here)
       where
         At : Effect → Type 0
-        At e = EffectFits p m of live (edges i next) f e
+        At e = EffectFits p m of live next ls h (edges i next) f e
 
         slots : peek f.locals n ≡ Int → (v : Value) (x : ℤ) → slice_get ls n ≡ Some v → (k : ℕ) → live next k ≡ true → Holds p m of (peek f.locals k) (slice_get (slice_set ls n (value.Int x)) k)
         slots is v x e k l = elim (eqb_tells n k) [
@@ -104,9 +104,9 @@ module _ (p : Program) (order : Ordered p) (m : Method) (of : Classes) (h : Obje
           | inr z ↦ subst (λ (o : Option Value). Holds p m of (peek f.locals k) o) (sym (set_other ls n k (value.Int x) (λ q. z.1 (sym q)))) (b.locals.slots k (b.wants.flow next k on l (w k ∙ z.0)))
         ]
 
-        by_slot : peek f.locals n ≡ Int → (o : Option Value) → slice_get ls n ≡ o → Holds p m of Int o → EffectFits p m of live (edges i next) f (with_some o (λ v. as_int v (λ x. Goes next (slice_set ls n (value.Int (op x))) vs h)))
+        by_slot : peek f.locals n ≡ Int → (o : Option Value) → slice_get ls n ≡ o → Holds p m of Int o → EffectFits p m of live next ls h (edges i next) f (with_some o (λ v. as_int v (λ x. Goes next (slice_set ls n (value.Int (op x))) vs h)))
         by_slot is None e d = absurd d
-        by_slot is (Some v) e d = int_is p order m of h heap (λ z. EffectFits p m of live (edges i next) f z) (λ c. tt) v d (λ x. Goes next (slice_set ls n (value.Int (op x))) vs h)
+        by_slot is (Some v) e d = int_is p order m of h heap (λ z. EffectFits p m of live next ls h (edges i next) f z) (λ c. tt) v d (λ x. Goes next (slice_set ls n (value.Int (op x))) vs h)
             (λ x. record { among = on; locals = record { room = set_length ls n (value.Int (op x)) ∙ b.locals.room; slots = slots is v (op x) e }; stack = b.stack; heap = heap })
 
   -- ---- returns

@@ -36,17 +36,17 @@ module _ (p : Program) (order : Ordered p) (m : Method) (of : Classes) (h : Obje
   B i = Before p m of h live at next f ls vs i
 
   abbrev pub After : Instr → Effect → Type 0
-  After i e = EffectFits p m of live (edges i next) g e
+  After i e = EffectFits p m of live next ls h (edges i next) g e
 
   -- the same, where the stack gets these types, and the locals stay
   abbrev pub At : Instr → List VType → Effect → Type 0
-  At i s e = EffectFits p m of live (edges i next) (record f { stack = s }) e
+  At i s e = EffectFits p m of live next ls h (edges i next) (record f { stack = s }) e
 
   pub by_takes : (i : Instr) → B i → (takes : List Operand) (gives : List VType) (also : List Further) → PlainOperands p order m of takes → by_row p m at (Takes takes gives also) f ≡ Ok g → (e : Effect) →
       (Furthers p also f.stack → (ts : List VType) → Taken p order m of h takes ts vs → At i (gives ++ ts) e) → After i e
   by_takes i b takes gives also plain r e k =
       let inv = takes_inverse p m at takes gives also f g r in
-      subst (λ (z : Types). EffectFits p m of live (edges i next) z e) inv.after (k inv.also_hold (drop (length takes) f.stack) (taken p order m of h takes f.stack vs plain inv.meet b.stack b.there))
+      subst (λ (z : Types). EffectFits p m of live next ls h (edges i next) z e) inv.after (k inv.also_hold (drop (length takes) f.stack) (taken p order m of h takes f.stack vs plain inv.meet b.stack b.there))
 
   pub kept : (i : Instr) → B i → ((k : ℕ) → writes i k ≡ false) → (q : ℕ) → Among (edges i next) q → LocalsFit p m of (live q) f.locals ls
   kept i b w q a = record { room = b.locals.room; slots = λ k l. b.locals.slots k (b.wants.flow q k a l (w k)) }
@@ -135,7 +135,7 @@ module _ (p : Program) (order : Ordered p) (m : Method) (of : Classes) (h : Obje
     shuffle form r = shuffle_of (shuffled form f.stack) form refl (passed 4 (form_room m form (words f.stack)) _ g (passed 3 (nat_le (form_words form) (words f.stack)) _ g r).1).1
 
     pub by_shuffle : (form : Form) → by_row p m at (Shuffles form) f ≡ Ok g → (e : Effect) → ((s : List VType) → shuffled form f.stack ≡ Ok s → At i s e) → After i e
-    by_shuffle form r e k = let x = shuffle form r in subst (λ (z : Types). EffectFits p m of live (edges i next) z e) x.after (k x.s x.is)
+    by_shuffle form r e k = let x = shuffle form r in subst (λ (z : Types). EffectFits p m of live next ls h (edges i next) z e) x.after (k x.s x.is)
 
     both_have : (t : VType) (v : Value) (ts : List VType) (ws : List Value) → has_type p m of t v ≡ true → have_types p m of ts ws ≡ true → have_types p m of (t ∷ ts) (v ∷ ws) ≡ true
     both_have t v ts ws e d = and_from (has_type p m of t v) (have_types p m of ts ws) e d
@@ -221,7 +221,7 @@ module _ (p : Program) (order : Ordered p) (m : Method) (of : Classes) (h : Obje
 
   module _ (i : Instr) (b : B i) (w : (k : ℕ) → writes i k ≡ false) (on : Among (edges i next) next) (n : ℕ) (read : reads i n ≡ true) where
     load : (t : VType) (v : Value) → has_type p m of t v ≡ true → record f { stack = t ∷ f.stack } ≡ g → After i (Goes next ls (v ∷ vs) h)
-    load t v e d = subst (λ (z : Types). EffectFits p m of live (edges i next) z (Goes next ls (v ∷ vs) h)) d (going i b w next on (t ∷ f.stack) (v ∷ vs) (and_from (has_type p m of t v) (have_types p m of f.stack vs) e b.stack))
+    load t v e d = subst (λ (z : Types). EffectFits p m of live next ls h (edges i next) z (Goes next ls (v ∷ vs) h)) d (going i b w next on (t ∷ f.stack) (v ∷ vs) (and_from (has_type p m of t v) (have_types p m of f.stack vs) e b.stack))
 
     here : Holds p m of (peek f.locals n) (slice_get ls n)
     here = b.locals.slots n (b.wants.read n read)
@@ -295,7 +295,7 @@ module _ (p : Program) (order : Ordered p) (m : Method) (of : Classes) (h : Obje
         let within : n < length ls = let r = b.locals.room in let y = x.within in let z = size_positive x.t in omega (arith, r, y, z) in
         let old = get_within ls n within in
         subst (λ (o : Option Value). After i (with_some o (λ _. Goes next (slice_set ls n x.v) x.rest h))) (sym old.1)
-        (subst (λ (z : Types). EffectFits p m of live (edges i next) z (Goes next (slice_set ls n x.v) x.rest h)) x.after
+        (subst (λ (z : Types). EffectFits p m of live next ls h (edges i next) z (Goes next (slice_set ls n x.v) x.rest h)) x.after
         (record { among = on; locals = record { room = set_length ls n x.v ∙ b.locals.room; slots = slots old.0 old.1 }; stack = x.others; heap = heap }))
       where
         slots : (y : Value) → slice_get ls n ≡ Some y → (k : ℕ) → live next k ≡ true → Holds p m of (peek (stored f.locals n x.t) k) (slice_get (slice_set ls n x.v) k)

@@ -5,7 +5,11 @@ use Rattle.std.proofs.lemmas.Bool.{and_parts, and_from, ne_eqb, leb-true}
 use Rattle.std.proofs.lemmas.List.{length-append, length-replicate}
 use Rattle.std.proofs.lemmas.List.Sums.{sum_by-cons}
 use Rattle.kilim_program.specs.declared.class.Method.{Method}
+use Rattle.kilim_run_state.specs.declared.cause.EndCause.{EndCause}
 use Rattle.kilim_run_state.specs.declared.cause.EndCause.TheVariants as cause
+use Rattle.kilim_program.specs.declared.names.ClassId.{ClassId}
+use Rattle.kilim_program.specs.BuiltIn.{class_type}
+use Rattle.kilim_run_machine.specs.Raising.{is_throwable}
 use Rattle.kilim_program.specs.declared.instr.Instr.{Instr}
 use Rattle.kilim_program.specs.declared.names.MethodId.{MethodId}
 use Rattle.kilim_program.specs.declared.ty.Base.{Base}
@@ -16,8 +20,8 @@ use Rattle.kilim_program.specs.declared.value.Value.TheVariants as value
 use Rattle.kilim_program.specs.declared.verified.VType.{VType}
 use Rattle.kilim_program.specs.declared.verified.VType.TheVariants.{Top, Int, Long, Null, UninitThis, Uninit, Object}
 use Rattle.kilim_program.specs.Program.{Program}
-use Rattle.kilim_run_state.specs.Machine.{Objects, Activation}
-use Rattle.kilim_program.specs.Lengths.{is_code_place}
+use Rattle.kilim_run_state.specs.Machine.{Objects, Activation, stands_behind}
+use Rattle.kilim_program.specs.Lengths.{fetched, is_code_place}
 use Rattle.kilim_program.specs.Names.{method_at}
 use Rattle.kilim_program.specs.Same.{argument_slots, type_slots, is_wide_base, is_constructor}
 use Rattle.kilim_run_machine.specs.Effect.{Effect, Goes, Makes, Opens, Calls, Asks, Returns, Raises, Throws, Ends, Stuck, is_wide}
@@ -26,7 +30,7 @@ use Rattle.kilim_run_machine.specs.Moves.{slots_in, entered, push_value, push_re
 use Rattle.kilim_run_machine.specs.Moves as moves
 use Rattle.kilim_type_spec.specs.Step.{Types, peek, size, words, is_unset, vtype, base_vtype, dims_vtype, class_vtype, result_types}
 use Rattle.kilim_type_spec.specs.Typed.{declared, TypedBy, WellTypedBy, edges, entry, this_types, slots_of_type, param_slots}
-use Rattle.kilim_type_sound.specs.Fits.{Classes, Typing, Wanted, is_long_type, refers, has_type, have_types, Holds, LocalsFit, HeapFits, Awaited, Nothing, AValue, AReference, StackFits, FrameFits, result_awaited, result_of, BelowFit, Verified}
+use Rattle.kilim_type_sound.specs.Fits.{Classes, IsThere, Typing, Wanted, is_long_type, refers, has_type, have_types, Holds, LocalsFit, HeapFits, Awaited, Nothing, AValue, AReference, StackFits, FrameFits, result_awaited, result_of, BelowFit, StandsAtCall, Verified}
 use Rattle.kilim_type_spec.specs.Typed.{has_code}
 use Rattle.kilim_type_sound.specs.Sound.{argument_types, GoesOn, CallFits, EffectFits, MoveFits}
 use Rattle.kilim_type_sound.specs.Facts.{Ordered}
@@ -277,6 +281,7 @@ module _ (p : Program) (typing : Typing) (live : Wanted) (verified : Verified p 
   -- ---- effects
 
   module _ (top : Activation) (below : List Activation) (m : Method) (there : method_at p top.method ≡ Some m) (code : has_code m ≡ true) (i : Instr) (next : ℕ) (s : Stands p m (typing top.method) top.place i next)
+      (here : fetched m.code m.code_length top.place ≡ Some (i, next)) (before : LocalsFit p m of (live top.method top.place) (typing top.method top.place).locals top.locals)
       (callers : BelowFit p typing live of m.result below) where
     goes : (w : Awaited) (place : ℕ) (ls vs : List Value) (h : Objects) → GoesOn p m of (live top.method) (edges i next) s.after w place ls vs h → FrameFits p typing live of w (moves.goes_on top place ls vs)
     goes w place ls vs h g =
@@ -290,35 +295,79 @@ module _ (p : Program) (typing : Typing) (live : Wanted) (verified : Verified p 
           stack = flows_stack p order m of w s.after (typing top.method place) vs r.flows g.stack;
         }
 
+    -- behind its call
+    call_stands : (place : ℕ) (ls vs : List Value) → place ≡ next → ls ≡ top.locals → StandsAtCall p typing live of (moves.goes_on top place ls vs)
+    call_stands place ls vs is same = record {
+      method = m;
+      there = there;
+      code = code;
+      call = (top.place, i);
+      here = here ∙ ap (λ (q : ℕ). Some (i, q)) (sym is);
+      behind = ap (stands_behind m.code m.code_length) is ∙ verified.behind top.method m there top.place next i here;
+      locals = subst (λ (xs : List Value). LocalsFit p m of (live top.method top.place) (typing top.method top.place).locals xs) (sym same) before;
+    }
+
     callers_of : BelowFit p typing live of (result_of (method_at p top.method)) below
     callers_of = subst (λ (o : Option Method). BelowFit p typing live of (result_of o) below) (sym there) callers
 
-    calls : (b : Bool) (id : MethodId) (args : List Value) (place : ℕ) (ls vs : List Value) (h : Objects) → CallFits p m of (live top.method) (edges i next) s.after id args place ls vs h →
+    calls : (now : Objects) (b : Bool) (id : MethodId) (args : List Value) (place : ℕ) (ls vs : List Value) (h : Objects) → CallFits p m of (live top.method) next top.locals now (edges i next) s.after id args place ls vs h →
         MoveFits p typing live of (cond b (moves.Runs (moves.Enters (moves.receiver_of p id args)) (entered p id args ∷ moves.goes_on top place ls vs ∷ below) h) (moves.Ends cause.Depth))
-    calls false id args place ls vs h c = tt
-    calls true id args place ls vs h c = (
+    calls now false id args place ls vs h c = tt
+    calls now true id args place ls vs h c = (
       (
         entered_fits id c.callee args c.there c.code c.arguments,
-        subst (λ (o : Option Method). BelowFit p typing live of (result_of o) (moves.goes_on top place ls vs ∷ below)) (sym c.there) (goes (result_awaited c.callee.result) place ls vs h c.goes, callers_of),
+        subst (λ (o : Option Method). BelowFit p typing live of (result_of o) (moves.goes_on top place ls vs ∷ below)) (sym c.there) (goes (result_awaited c.callee.result) place ls vs h c.goes, call_stands place ls vs c.behind c.same, callers_of),
       ),
       c.goes.heap,
     )
 
     returns : (result : Option Ty) (v : Option Value) (h : Objects) (below : List Activation) → have_types p m of (result_types result) (option_to_list v) ≡ true → HeapFits p of h → BelowFit p typing live of result below → MoveFits p typing live of (returned v below h)
     returns result v h [] t heap f = heap
-    returns None None h (a ∷ as1) t heap f = (f, heap)
+    returns None None h (a ∷ as1) t heap f = ((f.0, f.2), heap)
     returns None (Some x) h (a ∷ as1) t heap f = absurd (cc)
     returns (Some ty) None h (a ∷ as1) t heap f = absurd (cc)
-    returns (Some ty) (Some x) h (a ∷ as1) t heap f = ((value_comes_by p typing live order of a (vtype ty) m x (vtype_set ty) (and_parts (has_type p m of (vtype ty) x) true t).0 f.0, f.1), heap)
+    returns (Some ty) (Some x) h (a ∷ as1) t heap f = ((value_comes_by p typing live order of a (vtype ty) m x (vtype_set ty) (and_parts (has_type p m of (vtype ty) x) true t).0 f.0, f.2), heap)
 
-    pub move_fits : (e : Effect) → EffectFits p m of (live top.method) (edges i next) s.after e → MoveFits p typing live of (move_by p e top below)
-    move_fits (Goes place ls vs h) g = ((goes Nothing place ls vs h g, callers_of), g.heap)
-    move_fits (Makes object place ls vs h) g = (g.0, (goes (AReference (Some object.class)) place ls vs h g.1, callers_of), g.1.heap)
-    move_fits (Opens place ls vs h) g = ((goes _ place ls vs h g, callers_of), g.heap)
-    move_fits (Calls id args place ls vs h) c = calls (nat_lt (length (moves.goes_on top place ls vs ∷ below)) frame_limit) id args place ls vs h c
-    move_fits (Asks id args place ls vs h) c = record { callee = c.callee; there = c.there; built_in = c.built_in; arguments = c.arguments; frames = (goes (result_awaited c.callee.result) place ls vs h c.goes, callers_of); heap = c.goes.heap }
-    move_fits (Returns v h) g = returns m.result v h below g.0 g.1 callers
-    move_fits (Raises c) g = tt
-    move_fits (Throws object class c) g = g
-    move_fits (Ends c) g = tt
-    move_fits Stuck g = absurd g
+    pub move_fits : (now : Objects) (e : Effect) → EffectFits p m of (live top.method) next top.locals now (edges i next) s.after e → MoveFits p typing live of (move_by p e top below)
+    move_fits now (Goes place ls vs h) g = ((goes Nothing place ls vs h g, callers_of), g.heap)
+    move_fits now (Makes object place ls vs h) g = (g.0, (goes (AReference (Some object.class)) place ls vs h g.1, callers_of), g.1.heap)
+    move_fits now (Opens place ls vs h) g = ((goes _ place ls vs h g, callers_of), g.heap)
+    move_fits now (Calls id args place ls vs h) c = calls now (nat_lt (length (moves.goes_on top place ls vs ∷ below)) frame_limit) id args place ls vs h c
+    move_fits now (Asks id args place ls vs h) c = record { callee = c.callee; there = c.there; built_in = c.built_in; arguments = c.arguments; frames = (goes (result_awaited c.callee.result) place ls vs h c.goes, callers_of); stands = call_stands place ls vs c.behind c.same; heap = c.goes.heap }
+    move_fits now (Returns v h) g = returns m.result v h below g.0 g.1 callers
+    move_fits now (Raises c) g = tt
+    move_fits now (Throws object class c) g = (g.0, g.1)
+    move_fits now (Ends c) g = tt
+    move_fits now Stuck g = absurd g
+
+    -- what the instruction throws is there
+    pub thrown_there : (now : Objects) (e : Effect) → EffectFits p m of (live top.method) next top.locals now (edges i next) s.after e → (n : ℕ) (c : ClassId) (why : EndCause) → move_by p e top below ≡ moves.Throws n c why →
+        (of n ≡ Some (class_type c.0)) × (is_throwable p c ≡ true) × IsThere now (value.Ref n)
+    thrown_there now (Throws object class cause) g n c why e =
+        subst (λ (k : ClassId). (of n ≡ Some (class_type k.0)) × (is_throwable p k ≡ true) × IsThere now (value.Ref n)) (ap class_or e)
+        (subst (λ (q : ℕ). (of q ≡ Some (class_type class.0)) × (is_throwable p class ≡ true) × IsThere now (value.Ref q)) (ap object_or e) g)
+      where
+        object_or : moves.Move → ℕ
+        object_or (moves.Throws object class cause) = object
+        object_or move = 0
+
+        class_or : moves.Move → ClassId
+        class_or (moves.Throws object class cause) = class
+        class_or move = class
+    thrown_there now (Calls id args place ls vs h) g n c why e = by (nat_lt (length (moves.goes_on top place ls vs ∷ below)) frame_limit) e
+      where
+        by : (b : Bool) → cond b (moves.Runs (moves.Enters (moves.receiver_of p id args)) (entered p id args ∷ moves.goes_on top place ls vs ∷ below) h) (moves.Ends cause.Depth) ≡ moves.Throws n c why → (of n ≡ Some (class_type c.0)) × (is_throwable p c ≡ true) × IsThere now (value.Ref n)
+        by true e = absurd (cc)
+        by false e = absurd (cc)
+    thrown_there now (Returns v h) g n c why e = by below e
+      where
+        by : (below : List Activation) → returned v below h ≡ moves.Throws n c why → (of n ≡ Some (class_type c.0)) × (is_throwable p c ≡ true) × IsThere now (value.Ref n)
+        by [] e = absurd (cc)
+        by (a ∷ as1) e = absurd (cc)
+    thrown_there now (Goes place ls vs h) g n c why e = absurd (cc)
+    thrown_there now (Makes object place ls vs h) g n c why e = absurd (cc)
+    thrown_there now (Opens place ls vs h) g n c why e = absurd (cc)
+    thrown_there now (Asks id args place ls vs h) g n c why e = absurd (cc)
+    thrown_there now (Raises cause) g n c why e = absurd (cc)
+    thrown_there now (Ends cause) g n c why e = absurd (cc)
+    thrown_there now Stuck g n c why e = absurd (cc)

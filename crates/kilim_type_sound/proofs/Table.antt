@@ -104,7 +104,7 @@ whole_int c x e = absurd (cc)
 
 module _ (p : Program) (facts : Facts p) (narrows : Narrows) (m : Method) (of : Classes) (h : Objects) (heap : HeapFits p of h) (live : ℕ → ℕ → Bool) (at next : ℕ) (f g : Types) (ls vs : List Value) where
   module _ (i : Instr) (b : Before p m of h live at next f ls vs i) (w : (k : ℕ) → writes i k ≡ false) (on : Among (edges i next) next) where
-    constant : (v : Value) → by_row p m at (constant_row p v) f ≡ Ok g → EffectFits p m of live (edges i next) g (on_constant v (λ c. Goes next ls (c ∷ vs) h))
+    constant : (v : Value) → by_row p m at (constant_row p v) f ≡ Ok g → EffectFits p m of live next ls h (edges i next) g (on_constant v (λ c. Goes next ls (c ∷ vs) h))
     constant (value.Int x) e = push p facts.order m of h heap live at next f g ls vs i b w on Int (value.Int x) refl e
     constant (value.Text u) e = push p facts.order m of h heap live at next f g ls vs i b w on (text_type p) (value.Text u) text e
       where
@@ -116,7 +116,7 @@ module _ (p : Program) (facts : Facts p) (narrows : Narrows) (m : Method) (of : 
     constant (value.Box n) e = absurd (let z = (takes_inverse p m at [] (Int ∷ []) (needs 9 false ∷ []) f g e).also_hold.0 in cc)
     constant value.Fiber e = absurd (let z = (takes_inverse p m at [] (Int ∷ []) (needs 9 false ∷ []) f g e).also_hold.0 in cc)
 
-    long_constant : (v : Value) → by_row p m at (long_constant_row v) f ≡ Ok g → EffectFits p m of live (edges i next) g (on_constant v (λ c. Goes next ls (c ∷ vs) h))
+    long_constant : (v : Value) → by_row p m at (long_constant_row v) f ≡ Ok g → EffectFits p m of live next ls h (edges i next) g (on_constant v (λ c. Goes next ls (c ∷ vs) h))
     long_constant (value.Long x) e = push p facts.order m of h heap live at next f g ls vs i b w on Long (value.Long x) refl e
     long_constant (value.Int x) e = absurd (let z = (takes_inverse p m at [] (Long ∷ []) (needs 9 false ∷ []) f g e).also_hold.0 in cc)
     long_constant value.Null e = absurd (let z = (takes_inverse p m at [] (Long ∷ []) (needs 9 false ∷ []) f g e).also_hold.0 in cc)
@@ -125,7 +125,7 @@ module _ (p : Program) (facts : Facts p) (narrows : Narrows) (m : Method) (of : 
     long_constant (value.Box n) e = absurd (let z = (takes_inverse p m at [] (Long ∷ []) (needs 9 false ∷ []) f g e).also_hold.0 in cc)
     long_constant value.Fiber e = absurd (let z = (takes_inverse p m at [] (Long ∷ []) (needs 9 false ∷ []) f g e).also_hold.0 in cc)
 
-  pub table_fits : (i : Instr) → Before p m of h live at next f ls vs i → made_at m.code at ≡ made_by i → IsProper p i → type_step p m at i f ≡ Ok g → EffectFits p m of live (edges i next) g (does p m i next ls vs h)
+  pub table_fits : (i : Instr) → Before p m of h live at next f ls vs i → made_at m.code at ≡ made_by i → IsProper p i → type_step p m at i f ≡ Ok g → EffectFits p m of live next ls h (edges i next) g (does p m i next ls vs h)
   unfolding does row jump_targets ends_path
   table_fits instr.Nop b made proper e = nop p facts.order m of h heap live at next f g ls vs instr.Nop b (λ k. refl) (inl refl) e
   table_fits instr.AconstNull b made proper e = push p facts.order m of h heap live at next f g ls vs instr.AconstNull b (λ k. refl) (inl refl) Null value.Null refl e

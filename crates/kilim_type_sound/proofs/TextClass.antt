@@ -1,9 +1,9 @@
 -- The methods of strings are three, and no class but that of strings is assignable to it.
-use Rattle.std.proofs.Common.{◌≡◌, ℕ, zero, suc, ◌+◌, ◌<◌, Bool, true, false, eqb, List, [], ◌∷◌, ◌++◌, length, Option, Some, None, refl, sym, ap, subst, ◌∙◌, arith}
+use Rattle.std.proofs.Common.{◌≡◌, inl, inr, ℕ, zero, suc, ◌+◌, ◌<◌, Bool, true, false, eqb, List, [], ◌∷◌, ◌++◌, length, Option, Some, None, refl, sym, ap, subst, ◌∙◌, arith}
 use Rattle.std.specs.Prelude.{◌&&◌, ◌||◌, not, nat_lt, slice_get, codes}
 use Rattle.std.specs.List.{list_all, list_any, AllByRecursion}
 use Rattle.std.specs.Str.{bytes_eq}
-use Rattle.std.proofs.lemmas.Bool.{and_parts, eqb-true, false_from_ne_true, ltb-true}
+use Rattle.std.proofs.lemmas.Bool.{and_parts, eqb-true, false_from_ne_true, ltb-true, not-true, or_parts}
 use Rattle.kilim_program.specs.declared.class.Class.{Class}
 use Rattle.kilim_program.specs.declared.class.Form.TheVariants.{Plain, Woven}
 use Rattle.kilim_program.specs.declared.class.Form.{Form}
@@ -15,7 +15,8 @@ use Rattle.kilim_program.specs.declared.ty.Base.TheVariants as base
 use Rattle.kilim_program.specs.declared.ty.Qualifier.TheVariants.{Cuttable, Free, Safe}
 use Rattle.kilim_program.specs.declared.ty.Ty.{Ty}
 use Rattle.kilim_program.specs.Program.{Program}
-use Rattle.kilim_program.specs.BuiltIn.{built_in_classes_in, built_in_constructor, built_in_method, built_in_methods_in, class_id, class_type, fiber_params, fiber_qualifiers, fiber_type, int_type, of_fiber, plain_type}
+use Rattle.kilim_program.specs.BuiltIn.{built_in_classes_in, built_in_constructor, built_in_method, built_in_methods_in, class_id, class_type, exception_numbers, fiber_methods, fiber_params, fiber_qualifiers, fiber_type, int_type, of_fiber, plain_type, is_exception}
+use Rattle.kilim_program.proofs.BuiltIns.{constructors_too, exception_name}
 use Rattle.kilim_program.specs.Fits.{class_assignable, fits_type, is_named, type_assignable}
 use Rattle.kilim_program.specs.Kinds.{is_message}
 use Rattle.kilim_program.specs.Names.{◌>>=◌, class_at, class_name, class_named, line_of, line_up_to, method_at}
@@ -29,7 +30,7 @@ use Rattle.kilim_lemmas.proofs.Texts.{text_is}
 use Rattle.kilim_type_sound.specs.Facts.{IsCharAt, IsEquals, IsLength, TextKind, TextMethod}
 use Rattle.kilim_type_sound.specs.Fits.{is_of}
 use Rattle.kilim_type_sound.proofs.BuiltInMembers.{NamedAt, built_in_at, fiber_at, named_at, none_built_in}
-use Rattle.kilim_type_laws.proofs.members.ValueClasses.{IsPlain, UpIs, all_of_at, apart, built_plain, found_name, has_string, own_counted, own_fits}
+use Rattle.kilim_type_laws.proofs.members.ValueClasses.{IsPlain, UpIs, all_of_at, apart, built_plain, found_name, has_string, late_is_no_value, own_counted, own_fits}
 
 abbrev string_name : List ℕ
 string_name = codes "java/lang/String"
@@ -81,7 +82,7 @@ module _ (p : Program) where
                                       (λ t s. absurd (let z : true ≡ false = s in cc)),
                                       (
                                         (λ t s. absurd (let z : true ≡ false = s in cc)),
-                                        tt,
+                                        constructors_too (TextOnly p) n exception_numbers [] (λ c t s k. absurd (let z : true ≡ false = k in cc)) tt,
                                       ),
                                     ),
                                   ),
@@ -101,7 +102,7 @@ module _ (p : Program) where
       ),
     )
 
-    texts_woven : class_name p (class_id (n + 7)) ≡ codes "kilim/Fiber" → AllByRecursion (TextOnly p) (built_in_methods_in Woven n)
+    texts_woven : class_name p (class_id (n + 18)) ≡ codes "kilim/Fiber" → AllByRecursion (TextOnly p) (built_in_methods_in Woven n)
     texts_woven fiber = (
       not_text (built_in_constructor (class_id n)) (codes "java/lang/Object") object refl,
       (
@@ -138,7 +139,7 @@ module _ (p : Program) where
                                       (λ t s. absurd (let z : true ≡ false = s in cc)),
                                       (
                                         (λ t s. absurd (let z : true ≡ false = s in cc)),
-                                        (
+                                        constructors_too (TextOnly p) n exception_numbers (fiber_methods Woven n) (λ c t s k. absurd (let z : true ≡ false = k in cc)) (
                                           not_text (of_fiber n (codes "pc") (Some (int_type))) (codes "kilim/Fiber") fiber refl,
                                           (
                                             not_text (of_fiber n (codes "down") (Some (fiber_type n))) (codes "kilim/Fiber") fiber refl,
@@ -220,7 +221,7 @@ module _ (p : Program) (keeps : Keeps p) where
   all_text Plain is = texts_plain p n (object_name Plain is) (named_at p keeps Plain is 4 (codes "kilim/Task") (named_4 Plain n methods)) (named_at p keeps Plain is 5 (codes "kilim/Mailbox") (named_5 Plain n methods))
   all_text Woven is =
       texts_woven p n (object_name Woven is) (named_at p keeps Woven is 4 (codes "kilim/Task") (named_4 Woven n methods)) (named_at p keeps Woven is 5 (codes "kilim/Mailbox") (named_5 Woven n methods))
-      (named_at p keeps Woven is 7 (codes "kilim/Fiber") (fiber_at n methods))
+      (named_at p keeps Woven is 18 (codes "kilim/Fiber") (fiber_at n methods))
 
   text_kind : (id : MethodId) (callee : Method) → method_at p id ≡ Some callee → TextOnly p callee
   text_kind id callee there text =
@@ -239,16 +240,20 @@ module _ (p : Program) (keeps : Keeps p) where
       ap (λ (o : Option Class). bytes_eq (elim o [ None ↦ [] | Some class ↦ class.name ]) string_name) there ∙ apart p keeps string_name (has_string p.form n methods) up.0 c.0 c.1
 
   open_name : (up : ClassId) → is_open_superclass p (Some up) ≡ true → bytes_eq (class_name p up) string_name ≡ false
-  open_name up e = by (nat_lt up.0 (own_count p)) (is_object p up) refl refl e
+  open_name up e = by (nat_lt up.0 (own_count p)) (is_object p up) (is_named_task p up) refl refl refl e
     where
-      by : (a b : Bool) → nat_lt up.0 (own_count p) ≡ a → is_object p up ≡ b → (a || (b || is_named_task p up)) ≡ true → bytes_eq (class_name p up) string_name ≡ false
-      by true b is object e = let less = ltb-true up.0 (own_count p) is in let count = own_counted p keeps in own_name up (omega (arith, less, count))
-      by false true is object e = is_other (class_name p up) (codes "java/lang/Object") object refl
-      by false false is object e = is_other (class_name p up) (codes "kilim/Task") e refl
+      by : (a b c : Bool) → nat_lt up.0 (own_count p) ≡ a → is_object p up ≡ b → is_named_task p up ≡ c → (a || (b || (c || is_exception (class_name p up)))) ≡ true → bytes_eq (class_name p up) string_name ≡ false
+      by true b c is object task e = let less = ltb-true up.0 (own_count p) is in let count = own_counted p keeps in own_name up (omega (arith, less, count))
+      by false true c is object task e = is_other (class_name p up) (codes "java/lang/Object") object refl
+      by false false true is object task e = is_other (class_name p up) (codes "kilim/Task") task refl
+      by false false false is object task e = not-true _ (exception_name (λ (name : List ℕ). not (bytes_eq name string_name)) (class_name p up) refl refl e)
 
   plain_up : (o : Option ClassId) (up : ClassId) → o ≡ Some up → UpIs n o → bytes_eq (class_name p up) string_name ≡ false
   plain_up None up e is = absurd (cc)
-  plain_up (Some d) up e is =
+  plain_up (Some d) up e (inr late) =
+      let s : d ≡ up = cc in
+      ap (λ (k : ClassId). bytes_eq (class_name p k) string_name) (sym s) ∙ (ap (λ (k : ℕ). bytes_eq (class_name p (class_id k)) string_name) late.1 ∙ (or_parts _ _ (late_is_no_value p keeps late.0 late.2)).0)
+  plain_up (Some d) up e (inl is) =
       let s : d ≡ up = cc in
       ap (λ (k : ClassId). bytes_eq (class_name p k) string_name) (sym s) ∙ (ap (λ (k : ℕ). bytes_eq (class_name p (class_id k)) string_name) is ∙ ap (λ (t : List ℕ). bytes_eq t string_name) (object_name p.form refl))
 

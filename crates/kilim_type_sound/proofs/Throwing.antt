@@ -1,5 +1,5 @@
 -- What is thrown is null, or an object of a class.
-use Rattle.std.proofs.Common.{◌≡◌, ℕ, zero, suc, Bool, true, false, true≢false, List, [], ◌∷◌, Option, Some, None, Ok, refl, sym, ap, subst, ◌∙◌}
+use Rattle.std.proofs.Common.{◌≡◌, ℕ, zero, suc, Bool, true, false, true≢false, List, [], ◌∷◌, Option, Some, None, Ok, refl, sym, subst, ◌∙◌}
 use Rattle.std.specs.Prelude.{codes}
 use Rattle.std.specs.FinMap.{get}
 use Rattle.kilim_program.specs.declared.class.Method.{Method}
@@ -14,6 +14,7 @@ use Rattle.kilim_program.specs.declared.verified.VType.{VType}
 use Rattle.kilim_program.specs.declared.verified.VType.TheVariants.{Null}
 use Rattle.kilim_program.specs.Program.{Program}
 use Rattle.kilim_program.specs.BuiltIn.{class_type}
+use Rattle.kilim_program.specs.Fits.{fits_type}
 use Rattle.kilim_program.specs.Members.{named_type}
 use Rattle.kilim_program.specs.Names.{class_named}
 use Rattle.kilim_run_state.specs.declared.value.Object.{Object as HeapObject}
@@ -31,22 +32,24 @@ use Rattle.kilim_type_sound.proofs.Words.{value_took}
 
 module _ (p : Program) (facts : Facts p) (m : Method) (of : Classes) (h : Objects) (heap : HeapFits p of h) (live : ℕ → ℕ → Bool) (at next : ℕ) (f g : Types) (ls vs : List Value) where
   abbrev At : Instr → List VType → Effect → Type 0
-  At i s e = EffectFits p m of live (edges i next) (record f { stack = s }) e
+  At i s e = EffectFits p m of live next ls h (edges i next) (record f { stack = s }) e
 
   abbrev thrown_by : ℕ → HeapObject → Effect
   thrown_by n object = throws_object p n object.class.dims object.class.base
 
   module _ (i : Instr) (b : Before p m of h live at next f ls vs i) (ts : List VType) where
-    of_class : (n : ℕ) (k : ClassId) (d : ℕ) (c : Base) → d ≡ 0 → c ≡ base.Class k → of n ≡ Some (record { dims = d; base = c }) → At i ts (throws_object p n d c)
-    of_class n k zero (base.Class j) e q is = is
-    of_class n k zero c e q is = absurd (cc)
-    of_class n k (suc d) c e q is = absurd (cc)
+    of_class : (c : ClassId) → class_named p (codes "java/lang/Throwable") ≡ Some c → (n : ℕ) (k : ClassId) (d : ℕ) (b : Base) → d ≡ 0 → b ≡ base.Class k → of n ≡ Some (record { dims = d; base = b }) →
+        fits_type p (record { dims = d; base = b }) (class_type c.0) ≡ true → IsThere h (value.Ref n) → At i ts (throws_object p n d b)
+    of_class c named n k zero (base.Class j) e q is fits there = (is, facts.throwable c named j fits, there)
+    of_class c named n k zero b e q is fits there = absurd (cc)
+    of_class c named n k (suc d) b e q is fits there = absurd (cc)
 
     object_is : (c : ClassId) → class_named p (codes "java/lang/Throwable") ≡ Some c → (n : ℕ) (o : HeapObject) → get h n ≡ Some o → is_of p (of n) (class_type c.0) ≡ true → At i ts (thrown_by n o)
     object_is c named n o there fits =
         let is : of n ≡ Some o.class = heap.classes n o there in
-        let k = facts.thrown c named o.class.dims o.class.base (subst (λ (t : Option Ty). is_of p t (class_type c.0) ≡ true) is fits) in
-        of_class n k.0 o.class.dims o.class.base k.1 k.2 is
+        let below = subst (λ (t : Option Ty). is_of p t (class_type c.0) ≡ true) is fits in
+        let k = facts.thrown c named o.class.dims o.class.base below in
+        of_class c named n k.0 o.class.dims o.class.base k.1 k.2 is below (o, there)
 
     is_null : (v : Value) → has_type p m of Null v ≡ true → At i ts (as_object v h thrown_by)
     is_null value.Null e = tt
@@ -70,7 +73,7 @@ module _ (p : Program) (facts : Facts p) (m : Method) (of : Classes) (h : Object
     throwable_is (Some c) named (value.Box x) e t = absurd (no_value c (codes "kilim/Mailbox") (facts.no_thrown c named (codes "kilim/Mailbox") refl) e)
     throwable_is (Some c) named value.Fiber e t = absurd (no_value c (codes "kilim/Fiber") (facts.no_thrown c named (codes "kilim/Fiber") refl) e)
 
-  pub throw_row : (i : Instr) → Before p m of h live at next f ls vs i → by_row p m at (Takes (Is (throwable_type p) ∷ []) [] []) f ≡ Ok g → EffectFits p m of live (edges i next) g (on_object vs h (λ n object rest. thrown_by n object))
+  pub throw_row : (i : Instr) → Before p m of h live at next f ls vs i → by_row p m at (Takes (Is (throwable_type p) ∷ []) [] []) f ≡ Ok g → EffectFits p m of live next ls h (edges i next) g (on_object vs h (λ n object rest. thrown_by n object))
   throw_row i b r = by_takes p facts.order m of h heap live at next f g ls vs i b (Is (throwable_type p) ∷ []) [] [] (tt, tt) r _ (λ a ts k.
       value_took p facts.order m of h heap (At i ts) (λ c. tt) (Is (throwable_type p)) [] ts vs k _ (λ v e there rest t.
       throwable_is i b ts (class_named p (codes "java/lang/Throwable")) refl v e there))

@@ -83,7 +83,7 @@ module _ (p : Program) (m : Method) (typing : ℕ → Types) where
     pub place : is_code_place m.code at ≡ true
     pub plain : list_any is_top d.stack ≡ false
 
-  declared_in : (es : List (ℕ × Frame)) (at : ℕ) (d : Types) → list_all (frame_fits m) es ≡ true → frame_in es at ≡ Some d → Declared at d
+  pub declared_in : (es : List (ℕ × Frame)) (at : ℕ) (d : Types) → list_all (frame_fits m) es ≡ true → frame_in es at ≡ Some d → Declared at d
   declared_in [] at d h k = absurd (cc)
   declared_in (e ∷ es) at d h k = by_test (eqb e.0 at) refl k (declared_in es at d)
     where
@@ -137,7 +137,7 @@ module _ (p : Program) (m : Method) (typing : ℕ → Types) where
     here_is None d f h = h
     here_is (Some g) d f h = h.0
 
-    typed_at : (flow : Option Types) (es : List (ℕ × Instr)) (q : ℕ) (d : Types) → TypedBy p m typing flow es → is_code_place es q ≡ true → declared m q ≡ Some d → typing q ≡ d
+    pub typed_at : (flow : Option Types) (es : List (ℕ × Instr)) (q : ℕ) (d : Types) → TypedBy p m typing flow es → is_code_place es q ≡ true → declared m q ≡ Some d → typing q ≡ d
     typed_at flow [] q d h c k = absurd (cc)
     typed_at flow (e ∷ es) q d h c k = by_test (eqb e.0 q) refl c (typed_at (goes_on (ends_path e.1) h.1) es q d h.4)
       where

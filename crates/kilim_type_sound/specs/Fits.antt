@@ -20,7 +20,7 @@ use Rattle.kilim_program.specs.declared.value.Value.TheVariants as value
 use Rattle.kilim_program.specs.declared.verified.VType.{VType}
 use Rattle.kilim_program.specs.declared.verified.VType.TheVariants.{Top, Int, Long, Null, UninitThis, Uninit, Object}
 use Rattle.kilim_program.specs.Program.{Program}
-use Rattle.kilim_run_state.specs.Machine.{Objects, Activation}
+use Rattle.kilim_run_state.specs.Machine.{Objects, Activation, stands_behind}
 use Rattle.kilim_program.specs.BuiltIn.{class_type}
 use Rattle.kilim_program.specs.Names.{class_at, method_at, field_of, class_name}
 use Rattle.kilim_program.specs.Members.{object_fields, is_concrete}
@@ -184,10 +184,22 @@ abbrev pub result_of : Option Method → Option Ty
 result_of None = None
 result_of (Some method) = method.result
 
--- the frames below one of a method with that result
+-- A frame stands behind its call, and its locals fit the frame of verification before the call too: a call changes none. So what is live at
+-- a handler of the call alone has its type there.
+pub record StandsAtCall (p : Program) (typing : Typing) (live : Wanted) (of : Classes) (a : Activation) : Type 0 where
+  pub method : Method
+  pub there : method_at p a.method ≡ Some method
+  pub code : has_code method ≡ true
+  pub call : ℕ × Instr
+  pub here : fetched method.code method.code_length call.0 ≡ Some (call.1, a.place)
+  pub behind : stands_behind method.code method.code_length a.place ≡ Some call
+  pub locals : LocalsFit p method of (live a.method call.0) (typing a.method call.0).locals a.locals
+
+-- the frames below one of a method with that result, each behind its call
 abbrev pub BelowFit : Program → Typing → Wanted → Classes → Option Ty → List Activation → Type 0
 BelowFit p typing live of result [] = Unit {0}
-BelowFit p typing live of result (a ∷ as1) = FrameFits p typing live of (result_awaited result) a × BelowFit p typing live of (result_of (method_at p a.method)) as1
+BelowFit p typing live of result (a ∷ as1) =
+    FrameFits p typing live of (result_awaited result) a × StandsAtCall p typing live of a × BelowFit p typing live of (result_of (method_at p a.method)) as1
 
 abbrev pub FramesFit : Program → Typing → Wanted → Classes → Awaited → List Activation → Type 0
 FramesFit p typing live of awaited [] = Unit {0}
@@ -229,3 +241,5 @@ pub record Verified (p : Program) (typing : Typing) (live : Wanted) : Type 0 whe
   pub starts : (id : MethodId) (m : Method) → method_at p id ≡ Some m → has_code m ≡ true → (e : ℕ × Instr) × (es : List (ℕ × Instr)) × (m.code ≡ e ∷ es) × (e.0 ≡ 0)
   pub wants : (id : MethodId) (m : Method) → method_at p id ≡ Some m → (at : ℕ) (found : Instr × ℕ) → fetched m.code m.code_length at ≡ Some found → WantsAt m.handlers (live id) at found.1 found.0
   pub proper : (id : MethodId) (m : Method) → method_at p id ≡ Some m → (at : ℕ) (found : Instr × ℕ) → fetched m.code m.code_length at ≡ Some found → IsProper p found.0
+  -- the instruction behind which its next place stands is this one: places increase
+  pub behind : (id : MethodId) (m : Method) → method_at p id ≡ Some m → (at next : ℕ) (i : Instr) → fetched m.code m.code_length at ≡ Some (i, next) → stands_behind m.code m.code_length next ≡ Some (at, i)

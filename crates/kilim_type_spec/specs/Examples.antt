@@ -1,6 +1,6 @@
 -- Examples, computed: which types are assignable, what single instructions make of types, and the first faults of small methods. Each
 -- rule stands beside a near miss that passes.
-use Rattle.std.specs.Prelude.{◌≡◌, ℕ, suc, Bool, true, false, pos, List, [], ◌∷◌, ◌++◌, Option, Some, None, Result, Ok, codes, length, map}
+use Rattle.std.specs.Prelude.{◌≡◌, ℕ, ◌+◌, Bool, true, false, pos, List, [], ◌∷◌, ◌++◌, Option, Some, None, Result, Ok, codes, length, map}
 use Rattle.kilim_program.specs.declared.class.Handler.{Handler}
 use Rattle.kilim_program.specs.declared.class.Method.{Method}
 use Rattle.kilim_program.specs.declared.instr.Instr.{Instr}
@@ -142,15 +142,15 @@ loop_with frames = method_fault sample (with_code loop 7 frames)
 
 -- ---- exception tables
 
--- `sample` with the class of what can be thrown, and one below it
+-- the class of what can be thrown, and `sample` with one below it
 abbrev pub throwable_class : ℕ
-throwable_class = length sample.classes
+throwable_class = object_class + 7
 
 abbrev pub error_class : ℕ
-error_class = suc throwable_class
+error_class = length sample.classes
 
 abbrev pub throwing : Program
-throwing = record sample { classes = sample.classes ++ sample_class (codes "java/lang/Throwable") object_class false false [] ∷ sample_class (codes "E") throwable_class false false [] ∷ [] }
+throwing = record sample { classes = sample.classes ++ sample_class (codes "E") throwable_class false false [] ∷ [] }
 
 -- local 1 is set from place 2 on; a handler begins at place 3
 abbrev pub guarded : List (ℕ × Instr)

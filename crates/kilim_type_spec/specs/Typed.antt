@@ -1,6 +1,6 @@
 -- Well-typed methods (JVMS 4.10.1): the walk through the code in order, with the declared frames alone where flows meet; and
 -- live slots.
-use Rattle.std.specs.Prelude.{◌≡◌, ◌⊎◌, ℕ, zero, suc, Result, Ok, Err, Bool, true, false, ◌||◌, ◌&&◌, not, ◌==◌, nat_lt, nat_le, if◌then◌else◌, List, [], ◌∷◌, ◌++◌, Option, Some, None, is_some, unwrap_or, length, map, reverse, codes}
+use Rattle.std.specs.Prelude.{◌≡◌, ◌⊎◌, ℕ, zero, suc, Result, Ok, Err, Bool, true, false, ◌||◌, ◌&&◌, not, ◌==◌, nat_lt, nat_le, if◌then◌else◌, List, [], ◌∷◌, ◌++◌, Option, Some, None, is_some, unwrap_or, length, map, reverse}
 use Rattle.std.specs.List.{list_all, list_any}
 use Rattle.kilim_program.specs.declared.class.Handler.{Handler}
 use Rattle.kilim_program.specs.declared.class.Method.{Method}
@@ -14,8 +14,8 @@ use Rattle.kilim_program.specs.declared.verified.VType.{VType}
 use Rattle.kilim_program.specs.declared.verified.VType.TheVariants.{Top, Long, UninitThis, Uninit, Object}
 use Rattle.kilim_program.specs.Program.{Program}
 use Rattle.kilim_program.specs.Lengths.{jump_targets, ends_path, is_code_place, fetched}
-use Rattle.kilim_program.specs.Fits.{is_named}
-use Rattle.kilim_program.specs.Names.{line_of, method_at, is_empty}
+pub use Rattle.kilim_program.specs.Handlers.{covers, is_throwable}
+use Rattle.kilim_program.specs.Names.{method_at, is_empty}
 use Rattle.kilim_program.specs.Same.{is_constructor, argument_slots}
 use Rattle.kilim_type_spec.specs.Step.{Types, peek, is_top, is_long, is_unset_this, is_object, words, assignable, vtype, class_vtype, made_at, throwable_type, type_step}
 
@@ -153,10 +153,6 @@ typing_of p m at = frame_among m.code (frames_of p m) at
 
 -- ---- exception tables (JVMS 4.7.3, 4.10.1.6)
 
--- the range of an entry has the place
-abbrev pub covers : Handler → ℕ → Bool
-covers h at = nat_le h.start at && nat_lt at h.end
-
 -- the places of the handlers whose ranges have a place, in order
 abbrev pub handlers_at : List Handler → (at : ℕ) → List ℕ
 handlers_at [] at = []
@@ -166,10 +162,6 @@ handlers_at (h ∷ hs) at = if covers h at then h.at ∷ handlers_at hs at else 
 abbrev pub caught_type : Program → Option ClassId → VType
 caught_type p None = throwable_type p
 caught_type p (Some c) = class_vtype c
-
--- `java/lang/Throwable` or a class below it
-abbrev pub is_throwable : Program → ClassId → Bool
-is_throwable p c = list_any (is_named p (codes "java/lang/Throwable")) (line_of p c)
 
 abbrev pub catch_fits : Program → Option ClassId → Bool
 catch_fits p None = true

@@ -55,21 +55,21 @@ abbrev pub loop_plan : Plan
 loop_plan = plan_of loop loop_execute (λ place slot. false) (λ place. if nat_lt place 3 then place + 28 else place + 46) (λ number. 52)
 
 abbrev pub no_old_locals : Frame
-no_old_locals = record { locals = Top ∷ Top ∷ of_class 8 ∷ of_class 0 ∷ []; stack = [] }
+no_old_locals = record { locals = Top ∷ Top ∷ of_class 19 ∷ of_class 0 ∷ []; stack = [] }
 
--- `execute`, woven: the fiber's members are the methods from 20 on
+-- `execute`, woven: the fiber's members are the methods from 31 on
 abbrev pub woven_loop_execute : Method
 woven_loop_execute = record (sample_method (codes "execute") 0 true 4 4 55
     ((0, Aload 1) ∷ (1, Astore 2) ∷ (2, Aload 0) ∷ (3, Astore 3)
-    ∷ (4, Aload 2) ∷ (5, Invokevirtual (method_id 20)) ∷ (8, Tableswitch 28 (pos 1) (52 ∷ []))
-    ∷ (28, Aload 2) ∷ (29, Invokevirtual (method_id 21)) ∷ (32, Invokestatic (method_id 16))
-    ∷ (35, Aload 2) ∷ (36, Invokevirtual (method_id 22)) ∷ (39, Ifeq 49)
-    ∷ (42, Iconst (pos 1)) ∷ (43, Aload 3) ∷ (44, Aload 2) ∷ (45, Invokestatic (method_id 26)) ∷ (48, Return)
+    ∷ (4, Aload 2) ∷ (5, Invokevirtual (method_id 31)) ∷ (8, Tableswitch 28 (pos 1) (52 ∷ []))
+    ∷ (28, Aload 2) ∷ (29, Invokevirtual (method_id 32)) ∷ (32, Invokestatic (method_id 16))
+    ∷ (35, Aload 2) ∷ (36, Invokevirtual (method_id 33)) ∷ (39, Ifeq 49)
+    ∷ (42, Iconst (pos 1)) ∷ (43, Aload 3) ∷ (44, Aload 2) ∷ (45, Invokestatic (method_id 37)) ∷ (48, Return)
     ∷ (49, Goto 28)
     ∷ (52, Goto 28)
     ∷ [])
     ((28, no_old_locals) ∷ (49, no_old_locals) ∷ (52, no_old_locals) ∷ []))
-    { params = class_type 8 ∷ []; qualifiers = Safe ∷ [] }
+    { params = class_type 19 ∷ []; qualifiers = Safe ∷ [] }
 
 abbrev pub woven_loop : Program
 woven_loop = record {
@@ -122,36 +122,36 @@ values_live place slot = (slot == 1 && (nat_lt 20 place && nat_le place 24)) || 
 abbrev pub values_plan : Plan
 values_plan = plan_of values values_execute values_live (λ place. if nat_lt place 24 then place + 28 else place + 72) (λ number. 115)
 
--- `execute`, woven: an int and a long are below the call, an int and an object in locals. The fiber's members are the methods from 21 on.
+-- `execute`, woven: an int and a long are below the call, an int and an object in locals. The fiber's members are the methods from 32 on.
 abbrev pub woven_values : List (ℕ × Instr)
 woven_values =
     (0, Aload 1) ∷ (1, Astore 4) ∷ (3, Aload 0) ∷ (4, Astore 5)
-    ∷ (6, Aload 4) ∷ (8, Invokevirtual (method_id 21)) ∷ (11, Tableswitch 28 (pos 1) (115 ∷ []))
+    ∷ (6, Aload 4) ∷ (8, Invokevirtual (method_id 32)) ∷ (11, Tableswitch 28 (pos 1) (115 ∷ []))
     ∷ (28, Bipush (pos 8)) ∷ (30, Ldc2W (LongValue (pos 7)))
     ∷ (33, New (class_id 1)) ∷ (36, Dup) ∷ (37, Invokespecial (method_id 2)) ∷ (40, Astore 3)
     ∷ (41, Aload 3) ∷ (42, Bipush (pos 6)) ∷ (44, Putfield (record { 0 = 0 }))
     ∷ (47, Iconst (pos 5)) ∷ (48, Istore 1)
-    ∷ (49, Aload 4) ∷ (51, Invokevirtual (method_id 22)) ∷ (54, Invokestatic (method_id 17))
-    ∷ (57, Aload 4) ∷ (59, Invokevirtual (method_id 23)) ∷ (62, Ifeq 96)
-    ∷ (65, Aload 4) ∷ (67, Invokestatic (method_id 25))
-    ∷ (70, Aload 4) ∷ (72, Invokestatic (method_id 24))
-    ∷ (75, Iload 1) ∷ (76, Aload 4) ∷ (78, Invokestatic (method_id 24))
-    ∷ (81, Aload 3) ∷ (82, Aload 4) ∷ (84, Invokestatic (method_id 26))
-    ∷ (87, Iconst (pos 1)) ∷ (88, Aload 5) ∷ (90, Aload 4) ∷ (92, Invokestatic (method_id 27)) ∷ (95, Return)
+    ∷ (49, Aload 4) ∷ (51, Invokevirtual (method_id 33)) ∷ (54, Invokestatic (method_id 17))
+    ∷ (57, Aload 4) ∷ (59, Invokevirtual (method_id 34)) ∷ (62, Ifeq 96)
+    ∷ (65, Aload 4) ∷ (67, Invokestatic (method_id 36))
+    ∷ (70, Aload 4) ∷ (72, Invokestatic (method_id 35))
+    ∷ (75, Iload 1) ∷ (76, Aload 4) ∷ (78, Invokestatic (method_id 35))
+    ∷ (81, Aload 3) ∷ (82, Aload 4) ∷ (84, Invokestatic (method_id 37))
+    ∷ (87, Iconst (pos 1)) ∷ (88, Aload 5) ∷ (90, Aload 4) ∷ (92, Invokestatic (method_id 38)) ∷ (95, Return)
     ∷ (96, Iload 1) ∷ (97, Invokestatic (method_id 14))
     ∷ (100, Aload 3) ∷ (101, Getfield (record { 0 = 0 })) ∷ (104, Invokestatic (method_id 14))
     ∷ (107, L2i) ∷ (108, Invokestatic (method_id 14))
     ∷ (111, Invokestatic (method_id 14))
     ∷ (114, Return)
-    ∷ (115, Aload 4) ∷ (117, Invokevirtual (method_id 30)) ∷ (120, Checkcast (class_type 1)) ∷ (123, Astore 3)
-    ∷ (124, Aload 4) ∷ (126, Invokevirtual (method_id 28)) ∷ (129, Istore 1)
-    ∷ (130, Aload 4) ∷ (132, Invokevirtual (method_id 28))
-    ∷ (135, Aload 4) ∷ (137, Invokevirtual (method_id 29))
+    ∷ (115, Aload 4) ∷ (117, Invokevirtual (method_id 41)) ∷ (120, Checkcast (class_type 1)) ∷ (123, Astore 3)
+    ∷ (124, Aload 4) ∷ (126, Invokevirtual (method_id 39)) ∷ (129, Istore 1)
+    ∷ (130, Aload 4) ∷ (132, Invokevirtual (method_id 39))
+    ∷ (135, Aload 4) ∷ (137, Invokevirtual (method_id 40))
     ∷ (140, Goto 49)
     ∷ []
 
 abbrev pub values_frame : List VType → List VType → Frame
-values_frame old stack = record { locals = old ++ (of_class 9 ∷ of_class 0 ∷ []); stack = stack }
+values_frame old stack = record { locals = old ++ (of_class 20 ∷ of_class 0 ∷ []); stack = stack }
 
 abbrev pub woven_values_frames : List (ℕ × Frame)
 woven_values_frames =

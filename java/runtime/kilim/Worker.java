@@ -228,15 +228,25 @@ final class Worker extends Thread {
     }
 
     /** The word for what ended a task; where nothing that a task does throws it, the run is stopped. */
-    private static String cause(Throwable thrown) {
+    private String cause(Throwable thrown) {
         if (thrown instanceof Ended) {
             return ((Ended) thrown).cause;
         }
         String cause = CAUSES.get(thrown.getClass());
+        if (cause == null && isOfProgram(thrown)) {
+            cause = "thrown";
+        }
         if (cause == null) {
             Run.stop(thrown, thrown instanceof OutOfMemoryError ? Run.MEMORY : Run.REPORT);
         }
         return cause;
+    }
+
+    /** Whether a program throws it: an object of a class of its own, or of a class of Java that no instruction raises. */
+    private boolean isOfProgram(Throwable thrown) {
+        Class<?> kind = thrown.getClass();
+        return kind == Throwable.class || kind == Exception.class || kind == RuntimeException.class
+            || !(thrown instanceof Error) && kind.getClassLoader() == main.getClassLoader();
     }
 
     private void end(Fiber fiber, String cause) {

@@ -112,6 +112,9 @@ new = 187
 abbrev pub anewarray : ℕ
 anewarray = 189
 
+abbrev pub athrow : ℕ
+athrow = 191
+
 abbrev pub checkcast : ℕ
 checkcast = 192
 

@@ -62,7 +62,7 @@ rows =
     ∷ (187, 187, Index)  -- new
     ∷ (188, 188, NewArray)  -- newarray
     ∷ (189, 189, Index)  -- anewarray
-    ∷ (190, 190, Plain)  -- arraylength
+    ∷ (190, 191, Plain)  -- arraylength, athrow
     ∷ (192, 193, Index)  -- checkcast, instanceof
     ∷ (196, 196, Wide)  -- wide
     ∷ (198, 199, Jump)  -- ifnull, ifnonnull

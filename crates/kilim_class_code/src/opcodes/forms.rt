@@ -73,7 +73,7 @@ const FORMS: [(u8, u8, OpForm); 40] = [
     (187, 187, OpForm::Index),
     (188, 188, OpForm::NewArray),
     (189, 189, OpForm::Index),
-    (190, 190, OpForm::Plain),
+    (190, 191, OpForm::Plain),
     (192, 193, OpForm::Index),
     (196, 196, OpForm::Wide),
     (198, 199, OpForm::Jump),

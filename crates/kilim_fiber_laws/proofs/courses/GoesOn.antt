@@ -16,7 +16,7 @@ use Rattle.kilim_run_model.specs.State.{Setting}
 use Rattle.kilim_run_model.specs.declared.deed.Deed.{Deed}
 use Rattle.kilim_fiber_spec.proofs.lone.Steps.{steps}
 use Rattle.kilim_fiber_spec.specs.lone.Law.{IsActed, IsAt, IsBehind, IsDone, IsLast, IsNext, IsWanted, lone_at, wanted}
-use Rattle.kilim_fiber_spec.specs.Acts.{Action, Astray, Finished, Lost, Over, Wants}
+use Rattle.kilim_fiber_spec.specs.Acts.{Action, Astray, Finished, Lost, Over, Wants, Apart}
 use Rattle.kilim_fiber_spec.specs.Thread.{Run, Stop, Thread, step}
 use Rattle.kilim_fiber_laws.specs.courses.Law.{CoursesGoOn, IsOfCourse}
 
@@ -88,8 +88,8 @@ wanted_over : (set : Setting) (o : Option (Action × Option Lone)) (t : Thread) 
 wanted_over set None t is = absurd is
 wanted_over set (Some wish) t is = over set (Wants wish.0 is.0) t is.1
 
-module _ (set : Setting) (k : ℕ) (here : Lone) (c : Course) (last : Lone) (lone : IsLone set k c last) (quiet : Quiet set k last here) where
-  moved : (after : Lone) → next_move set k here ≡ next.Goes after → (ds : List Deed) (as1 : List Act) (t : Thread) → IsAt after ds as1 k t → IsOfCourse set t
+module _ (set : Setting) (k : ℕ) (aside : List Apart) (here : Lone) (c : Course) (last : Lone) (lone : IsLone set k c last) (quiet : Quiet set k last here) where
+  moved : (after : Lone) → next_move set k here ≡ next.Goes after → (ds : List Deed) (as1 : List Act) (t : Thread) → IsAt after ds as1 k aside t → IsOfCourse set t
   moved after e ds as1 (Run m p l s x b w) is = (
     c,
     last,
@@ -98,7 +98,7 @@ module _ (set : Setting) (k : ℕ) (here : Lone) (c : Course) (last : Lone) (lon
   )
   moved after e ds as1 (Stop o) is = absurd is
 
-  acted : (n : Next) → next_move set k here ≡ n → is_act n ≡ true → (d : Deed) (y : Done) → done_by set n d ≡ Some y → (ds : List Deed) (as1 : List Act) (t : Thread) → IsAt y.after ds as1 k t → IsOfCourse set t
+  acted : (n : Next) → next_move set k here ≡ n → is_act n ≡ true → (d : Deed) (y : Done) → done_by set n d ≡ Some y → (ds : List Deed) (as1 : List Act) (t : Thread) → IsAt y.after ds as1 k aside t → IsOfCourse set t
   acted n e act d y did ds as1 (Run m p l s x b w) is =
       let now = ap (λ (z : Next). done_by set z (told d y)) (action_is set k last here n quiet e act) ∙ done_again set n d y did in
       let more : Course = record { beginning = c.beginning; deeds = c.deeds ++ told d y ∷ [] } in
@@ -110,19 +110,19 @@ module _ (set : Setting) (k : ℕ) (here : Lone) (c : Course) (last : Lone) (lon
       )
   acted n e act d y did ds as1 (Stop o) is = absurd is
 
-  behind : (n : Next) → next_move set k here ≡ n → is_act n ≡ true → (d : Deed) (y : Done) → done_by set n d ≡ Some y → (act : Act) (ds : List Deed) (as1 : List Act) (t : Thread) → IsBehind act ds as1 k y.after t → IsOfCourse set t
+  behind : (n : Next) → next_move set k here ≡ n → is_act n ≡ true → (d : Deed) (y : Done) → done_by set n d ≡ Some y → (act : Act) (ds : List Deed) (as1 : List Act) (t : Thread) → IsBehind act ds as1 k aside y.after t → IsOfCourse set t
   behind n e is d y did (End why) ds as1 t a = last_over set why ds t a
   behind n e is d y did act ds as1 t a = acted n e is d y did ds (act ∷ as1) t a
 
-  done_on : (n : Next) → next_move set k here ≡ n → is_act n ≡ true → (d : Deed) (o : Option Done) → done_by set n d ≡ o → (ds : List Deed) (as1 : List Act) (t : Thread) → IsDone ds as1 k o t → IsOfCourse set t
+  done_on : (n : Next) → next_move set k here ≡ n → is_act n ≡ true → (d : Deed) (o : Option Done) → done_by set n d ≡ o → (ds : List Deed) (as1 : List Act) (t : Thread) → IsDone ds as1 k aside o t → IsOfCourse set t
   done_on n e is d None did ds as1 t a = over set Astray t a
   done_on n e is d (Some y) did ds as1 t a = behind n e is d y did y.act ds as1 t a
 
-  acts_on : (n : Next) → next_move set k here ≡ n → is_act n ≡ true → (ds : List Deed) (as1 : List Act) (t : Thread) → IsActed set ds as1 k n t → IsOfCourse set t
+  acts_on : (n : Next) → next_move set k here ≡ n → is_act n ≡ true → (ds : List Deed) (as1 : List Act) (t : Thread) → IsActed set ds as1 k aside n t → IsOfCourse set t
   acts_on n e is [] as1 t a = wanted_over set (wanted n) t a
   acts_on n e is (d ∷ ds) as1 t a = done_on n e is d (done_by set n d) refl ds as1 t a
 
-  next_on : (n : Next) → next_move set k here ≡ n → (ds : List Deed) (as1 : List Act) (t : Thread) → IsNext set ds as1 k n t → IsOfCourse set t
+  next_on : (n : Next) → next_move set k here ≡ n → (ds : List Deed) (as1 : List Act) (t : Thread) → IsNext set ds as1 k aside n t → IsOfCourse set t
   next_on (next.Goes after) e ds as1 t a = moved after e ds as1 t a
   next_on (next.Puts box root shape l) e ds as1 t a = acts_on (next.Puts box root shape l) e refl ds as1 t a
   next_on (next.PutWaits box root shape l) e ds as1 t a = acts_on (next.PutWaits box root shape l) e refl ds as1 t a
@@ -136,5 +136,5 @@ module _ (set : Setting) (k : ℕ) (here : Lone) (c : Course) (last : Lone) (lon
 
 pub goes_on : CoursesGoOn
 goes_on set none (Run m p l s x b w) is =
-    next_on set w.task (lone_at m p l s b w) is.0 is.1 is.2 is.3 (next_move set w.task (lone_at m p l s b w)) refl w.deeds w.acts (step set (Run m p l s x b w)) (steps set none m p l s x b w)
+    next_on set w.task w.aside (lone_at m p l s b w) is.0 is.1 is.2 is.3 (next_move set w.task (lone_at m p l s b w)) refl w.deeds w.acts (step set (Run m p l s x b w)) (steps set none m p l s x b w)
 goes_on set none (Stop o) is = tt

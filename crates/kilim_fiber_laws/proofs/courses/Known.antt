@@ -190,7 +190,7 @@ module _ (set : Setting) (typing : Typing) (wanted : Wanted) (live : Liveness) (
       let typed = threads_are_typed set typing wanted is main (kept_stacks live set kept) w.task here.0 here.1 (lone_at m p l s b w) here.2 here.3 in
       let fits = typed.is.fits in
       let top = fits.frames.0 in
-      let effect : (i : Instr) (to : ℕ) → fetch set.program m p ≡ Some (i, to) → (g : Types) × EffectFits set.program top.method typed.of (wanted m) (edges i to) g (does set.program (own_of set.program m) i to l s w.heap) = λ i to f.
+      let effect : (i : Instr) (to : ℕ) → fetch set.program m p ≡ Some (i, to) → (g : Types) × EffectFits set.program top.method typed.of (wanted m) to l w.heap (edges i to) g (does set.program (own_of set.program m) i to l s w.heap) = λ i to f.
       let own : fetched top.method.code top.method.code_length p ≡ Some (i, to) = ap (λ (o : Option Method). code_in o p) (sym top.there) ∙ f in
       let well = is.verified.typed m top.method top.there top.code in
       let at = stands_at set.program top.method (typing m) well p i to own in
@@ -199,7 +199,7 @@ module _ (set : Setting) (typing : Typing) (wanted : Wanted) (live : Liveness) (
       (made_there top.method.code top.method.code_length p i to own)
       (is.verified.proper m top.method top.there p (i, to) own)
       at.step in
-      (at.after, subst (λ (z : Effect). EffectFits set.program top.method typed.of (wanted m) (edges i to) at.after z) (ap (λ (o : Option Method). does set.program (own_in o) i to l s w.heap) (sym top.there)) effect) in
+      (at.after, subst (λ (z : Effect). EffectFits set.program top.method typed.of (wanted m) to l w.heap (edges i to) at.after z) (ap (λ (o : Option Method). does set.program (own_in o) i to l s w.heap) (sym top.there)) effect) in
       record {
         there = stands top.method top.there (fetched top.method.code top.method.code_length p) refl top.stands;
         old = heap_old set.program typed.of w.heap fits.heap;
@@ -210,10 +210,10 @@ module _ (set : Setting) (typing : Typing) (wanted : Wanted) (live : Liveness) (
             receives_typed set.program (facts_hold set.program is.keeps).order top.method typed.of w.heap fits.heap p i (typing m p) at.after s top.stack at.step;
         sound = λ i to f e.
             let r = effect i to f in
-            absurd (subst (λ (z : Effect). EffectFits set.program top.method typed.of (wanted m) (edges i to) r.0 z) e r.1);
+            absurd (subst (λ (z : Effect). EffectFits set.program top.method typed.of (wanted m) to l w.heap (edges i to) r.0 z) e r.1);
         calls = λ i to q l2 s2 args heap c f e.
             let r = effect i to f in
-            let called : CallFits set.program top.method typed.of (wanted m) (edges i to) r.0 c args q l2 s2 heap = subst (λ (z : Effect). EffectFits set.program top.method typed.of (wanted m) (edges i to) r.0 z) e r.1 in
+            let called : CallFits set.program top.method typed.of (wanted m) to l w.heap (edges i to) r.0 c args q l2 s2 heap = subst (λ (z : Effect). EffectFits set.program top.method typed.of (wanted m) to l w.heap (edges i to) r.0 z) e r.1 in
             (called.callee, typed.of, called.there, called.arguments);
       }
     where

@@ -177,6 +177,7 @@ given_is a b e = cc
 given_among : (good : ℕ → Type 0) (o : Option Native) (args : List Value) (root : Root) (n : ℕ) → AreHeld good args → given o args ≡ Some (root, n) → good n
 given_among good (Some native.Put) (value.Box box ∷ value.Ref k ∷ []) root n g e = subst good (ap (λ (z : Root × ℕ). z.1) (given_is (OfMessage, k) (root, n) e)) g.1.0
 given_among good (Some native.PutWait) (value.Box box ∷ value.Ref k ∷ []) root n g e = subst good (ap (λ (z : Root × ℕ). z.1) (given_is (OfMessage, k) (root, n) e)) g.1.0
+given_among good (Some native.PutWait) (value.Box box ∷ value.Ref k ∷ value.Fiber ∷ []) root n g e = subst good (ap (λ (z : Root × ℕ). z.1) (given_is (OfMessage, k) (root, n) e)) g.1.0
 given_among good (Some native.Start) (value.Ref k ∷ []) root n g e = subst good (ap (λ (z : Root × ℕ). z.1) (given_is (OfTask, k) (root, n) e)) g.0
 given_among good _ _ root n g e = absurd (none_given (root, n) e)
 

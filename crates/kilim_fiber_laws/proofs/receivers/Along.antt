@@ -29,7 +29,7 @@ module _ (set : Setting) (run : IsRunOfAccepted set) where
   selves_there [] h above c y held = self_there h (above []) c y held
   selves_there (At m q l s x ∷ b) h above c y held = (self_there h (above []) c y held.0, selves_there b h (λ pre. above (frame m q l s ∷ pre)) m x held.1)
 
-  selves_in : (t : Thread) → HeldIn set run t → SelvesIn set t
+  pub selves_in : (t : Thread) → HeldIn set run t → SelvesIn set t
   selves_in (Run m p l s x b w) held = selves_there b w.heap (λ pre. frame m p l s ∷ pre) m x held
   selves_in (Stop o) held = tt
 

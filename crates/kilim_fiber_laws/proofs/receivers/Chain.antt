@@ -30,7 +30,7 @@ use Rattle.kilim_isolation_laws.proofs.typed_threads.Moving.{deeds_stay_typed, m
 use Rattle.kilim_type_laws.specs.Laws.{typing_at}
 use Rattle.kilim_fiber_spec.proofs.lone.Steps.{steps}
 use Rattle.kilim_fiber_spec.specs.lone.Law.{IsActed, IsAt, IsBehind, IsDone, IsLast, IsNext, IsWanted, lone_at, wanted}
-use Rattle.kilim_fiber_spec.specs.Acts.{Action, Astray, Finished, Lost, Over, Wants}
+use Rattle.kilim_fiber_spec.specs.Acts.{Action, Astray, Finished, Lost, Over, Wants, Apart}
 use Rattle.kilim_fiber_spec.specs.Thread.{Run, Stop, Thread, step}
 
 -- all locals are wanted
@@ -86,12 +86,12 @@ module _ (set : Setting) (run : IsRunOfAccepted set) where
   wanted_well of None t is = absurd is
   wanted_well of (Some wish) t is = over_well of (Wants wish.0 is.0) t is.1
 
-  module _ (of : Classes) (k : ℕ) (here : Lone) (well : IsWell of here) where
-    at_well : (after : Lone) → (more : Classes) → Extends of more → IsWell more after → (ds : List Deed) (as1 : List Act) (t : Thread) → IsAt after ds as1 k t → WellFurther of t
+  module _ (of : Classes) (k : ℕ) (aside : List Apart) (here : Lone) (well : IsWell of here) where
+    at_well : (after : Lone) → (more : Classes) → Extends of more → IsWell more after → (ds : List Deed) (as1 : List Act) (t : Thread) → IsAt after ds as1 k aside t → WellFurther of t
     at_well after more grows is ds as1 (Run m p l s x b w) a = (more, grows, subst (λ (z : Lone). IsWell more z) (sym a.0) is)
     at_well after more grows is ds as1 (Stop o) a = absurd a
 
-    moved : (after : Lone) → next_move set k here ≡ next.Goes after → (ds : List Deed) (as1 : List Act) (t : Thread) → IsAt after ds as1 k t → WellFurther of t
+    moved : (after : Lone) → next_move set k here ≡ next.Goes after → (ds : List Deed) (as1 : List Act) (t : Thread) → IsAt after ds as1 k aside t → WellFurther of t
     moved after e ds as1 t a =
         let b = as_well of here well in
         let there = stack_there set run.keeps run.form run.well run.accepted run.main run.begins here b in
@@ -102,7 +102,7 @@ module _ (set : Setting) (run : IsRunOfAccepted set) where
           stands = move_keeps set wants_all (listed_at set.program) (sound set run.keeps run.form run.well run.accepted run.main run.begins) v run.main k here after of further.more (begins_kept here b) well.fits there well.stands e further.is;
         }) ds as1 t a
 
-    acted : (n : Next) → next_move set k here ≡ n → (d : Deed) (y : Done) → done_by set n d ≡ Some y → (ds : List Deed) (as1 : List Act) (t : Thread) → IsAt y.after ds as1 k t → WellFurther of t
+    acted : (n : Next) → next_move set k here ≡ n → (d : Deed) (y : Done) → done_by set n d ≡ Some y → (ds : List Deed) (as1 : List Act) (t : Thread) → IsAt y.after ds as1 k aside t → WellFurther of t
     acted n e d y did ds as1 t a =
         let b = as_well of here well in
         let there = stack_there set run.keeps run.form run.well run.accepted run.main run.begins here b in
@@ -114,19 +114,19 @@ module _ (set : Setting) (run : IsRunOfAccepted set) where
           stands = deed_keeps set wants_all (listed_at set.program) (sound set run.keeps run.form run.well run.accepted run.main run.begins) v run.main k here y.after of d y.act (begins_kept here b) well.fits there well.stands done;
         }) ds as1 t a
 
-    behind : (n : Next) → next_move set k here ≡ n → (d : Deed) (y : Done) → done_by set n d ≡ Some y → (act : Act) (ds : List Deed) (as1 : List Act) (t : Thread) → IsBehind act ds as1 k y.after t → WellFurther of t
+    behind : (n : Next) → next_move set k here ≡ n → (d : Deed) (y : Done) → done_by set n d ≡ Some y → (act : Act) (ds : List Deed) (as1 : List Act) (t : Thread) → IsBehind act ds as1 k aside y.after t → WellFurther of t
     behind n e d y did (End why) ds as1 t a = last_well of why ds t a
     behind n e d y did act ds as1 t a = acted n e d y did ds (act ∷ as1) t a
 
-    done_on : (n : Next) → next_move set k here ≡ n → (d : Deed) (o : Option Done) → done_by set n d ≡ o → (ds : List Deed) (as1 : List Act) (t : Thread) → IsDone ds as1 k o t → WellFurther of t
+    done_on : (n : Next) → next_move set k here ≡ n → (d : Deed) (o : Option Done) → done_by set n d ≡ o → (ds : List Deed) (as1 : List Act) (t : Thread) → IsDone ds as1 k aside o t → WellFurther of t
     done_on n e d None did ds as1 t a = over_well of Astray t a
     done_on n e d (Some y) did ds as1 t a = behind n e d y did y.act ds as1 t a
 
-    acts_on : (n : Next) → next_move set k here ≡ n → (ds : List Deed) (as1 : List Act) (t : Thread) → IsActed set ds as1 k n t → WellFurther of t
+    acts_on : (n : Next) → next_move set k here ≡ n → (ds : List Deed) (as1 : List Act) (t : Thread) → IsActed set ds as1 k aside n t → WellFurther of t
     acts_on n e [] as1 t a = wanted_well of (wanted n) t a
     acts_on n e (d ∷ ds) as1 t a = done_on n e d (done_by set n d) refl ds as1 t a
 
-    next_on : (n : Next) → next_move set k here ≡ n → (ds : List Deed) (as1 : List Act) (t : Thread) → IsNext set ds as1 k n t → WellFurther of t
+    next_on : (n : Next) → next_move set k here ≡ n → (ds : List Deed) (as1 : List Act) (t : Thread) → IsNext set ds as1 k aside n t → WellFurther of t
     next_on (next.Goes after) e ds as1 t a = moved after e ds as1 t a
     next_on (next.Puts box root shape l) e ds as1 t a = acts_on (next.Puts box root shape l) e ds as1 t a
     next_on (next.PutWaits box root shape l) e ds as1 t a = acts_on (next.PutWaits box root shape l) e ds as1 t a
@@ -140,5 +140,5 @@ module _ (set : Setting) (run : IsRunOfAccepted set) where
 
   pub step_well : (of : Classes) (t : Thread) → WellAs of t → WellFurther of (step set t)
   step_well of (Run m p l s x b w) is =
-      next_on of w.task (lone_at m p l s b w) is (next_move set w.task (lone_at m p l s b w)) refl w.deeds w.acts (step set (Run m p l s x b w)) (steps set run.keeps.handlers m p l s x b w)
+      next_on of w.task w.aside (lone_at m p l s b w) is (next_move set w.task (lone_at m p l s b w)) refl w.deeds w.acts (step set (Run m p l s x b w)) (steps set run.keeps.handlers m p l s x b w)
   step_well of (Stop o) is = (of, (λ n c k. k), tt)

@@ -1,5 +1,5 @@
 -- A pausable call; and one step of the thread, whatever it is.
-use Rattle.std.proofs.Common.{◌≡◌, ◌≢◌, inl, inr, ℕ, suc, ◌+◌, ◌*◌, ◌≤◌, Bool, true, false, List, [], ◌∷◌, ◌++◌, length, Option, Some, None, refl, sym, ap, subst, ◌∙◌, arith}
+use Rattle.std.proofs.Common.{◌≡◌, ◌≢◌, inl, inr, ℕ, suc, ◌+◌, ◌*◌, ◌≤◌, Bool, true, false, List, [], ◌∷◌, ◌++◌, length, Option, Some, None, refl, sym, ap, subst, ◌∙◌, arith, zero}
 use Rattle.std.specs.Prelude.{nat_le, nat_lt, if◌then◌else◌}
 use Rattle.std.proofs.lemmas.Bool.{false≢true}
 use Rattle.kilim_run_state.specs.declared.cause.EndCause.TheVariants as cause
@@ -18,15 +18,15 @@ use Rattle.kilim_run_machine.specs.Does.{does}
 use Rattle.kilim_run_machine.specs.Moves.{entered, frame_limit}
 use Rattle.kilim_run_model.specs.State.{Setting}
 use Rattle.kilim_weave_spec.specs.Woven.{member, fiber_slot, pausable_callee}
-use Rattle.kilim_fiber_spec.specs.Acts.{World, Lost, counted, ending, spending, native_does, asks}
+use Rattle.kilim_fiber_spec.specs.Acts.{World, Lost, counted, ending, spending, native_does, asks, apart, together, put_waits}
 use Rattle.kilim_fiber_spec.specs.Thread.{fetch, push, Frame, At, Thread, Run, Stop, step, self_of, found_does, effect_does, calls, own_of}
 use Rattle.kilim_run_machine.specs.Natives.{Down, FiberMember}
-use Rattle.kilim_fiber_spec.specs.Fibers.{Fib, Fiber_at, Saved, empty_record, member_of, without_fiber, before, Woven_state, WRun, Resting, WStop, wstep, weffect, wcalls, wasks, wnatives, wnative, handed_does, gets, getting, yielding, frame}
+use Rattle.kilim_fiber_spec.specs.Fibers.{Fib, Fiber_at, Saved, empty_record, member_of, without_fiber, before, Woven_state, WRun, Resting, WStop, wstep, weffect, wcalls, wasks, wnatives, wnative, handed_does, gets, getting, yielding, frame, putting, puts_now, waits, waits_on}
 use Rattle.kilim_fiber_spec.specs.Form.{Facts, Group, Members, longest}
 use Rattle.kilim_fiber_spec.specs.Rows.{handed}
-use Rattle.kilim_fiber_spec.specs.Serves.{Rows, Known, Shape, IsCall, IsNative, IsRaise, IsEnd, IsStuck, is_pausing_native, IsThread, Now}
+use Rattle.kilim_fiber_spec.specs.Serves.{Rows, Known, Shape, IsCall, IsNative, IsRaise, IsEnd, IsStuck, is_pausing_native, IsThread, Now, leaf_receiver, resting_heap}
 use Rattle.kilim_fiber_spec.specs.Links.{Link, Lk, u_frames, left_overs, bares, Leaf, Forms, code, w_frames, Holds, AllStand, Good, Goods, Takes, AreReady, Fw, Fine_at, record_of, first_record, next_records}
-use Rattle.kilim_fiber_spec.specs.Rooms.{HasRoom, bare_frames}
+use Rattle.kilim_fiber_spec.specs.Rooms.{HasRoom, bare_frames, GivesWhole}
 use Rattle.kilim_type_sound.specs.Fits.{AreThere}
 use Rattle.kilim_fiber_laws.proofs.simulation.Still.{StepIsKnown}
 use Rattle.kilim_run_interp.specs.Step.{stack_limit}
@@ -39,6 +39,10 @@ use Rattle.kilim_fiber_laws.proofs.simulation.Forward as forward
 use Rattle.kilim_fiber_laws.proofs.simulation.PlainStep.{stack_length}
 use Rattle.kilim_fiber_laws.proofs.simulation.Leaves.{frames_bare}
 use Rattle.kilim_fiber_laws.proofs.simulation.Leaves as leaf
+use Rattle.kilim_fiber_laws.proofs.simulation.Waits as wait
+use Rattle.kilim_program.specs.declared.names.BoxName.{BoxName}
+use Rattle.kilim_run_state.specs.declared.value.Token.{Token}
+use Rattle.kilim_run_state.specs.Shapes.{shape_of}
 use Rattle.kilim_run_state.specs.Trees.{Root}
 use Rattle.kilim_run_model.specs.Kept.{given}
 use Rattle.kilim_fiber_laws.proofs.simulation.Held.{NextHeld}
@@ -65,10 +69,12 @@ module _ (set : Setting) (W : Program) (marks : List (List Bool)) (most : ℕ) (
 
   to_side : (n : Native) (box : Value) (k : Link) (links : List Link) (t : Thread) (w : World) → IsThread set W marks form n box k links t w → IsSide n box (bares (k ∷ links)) t w
   to_side native.Get box (Lk m from to i callee s l wl x old was) links t w h = (h.0, h.1, h.2, h.3, h.4 ∙ ap (λ (fs : List Frame). Run m from l h.1 x fs w) (sym (frames_bare links)))
+  to_side native.PutWait box (Lk m from to i callee s l wl x old was) links t w h = (h.0, h.1, h.2, h.3, h.4, h.5, h.6, h.7 ∙ ap (λ (fs : List Frame). Run m from l h.4 x fs (together h.0.heap h.1 w)) (sym (frames_bare links)))
   to_side n box (Lk m from to i callee s l wl x old was) links t w h = h ∙ ap (λ (fs : List Frame). Run m to l s x fs w) (sym (frames_bare links))
 
   from_side : (n : Native) (box : Value) (k : Link) (links : List Link) (t : Thread) (w : World) → IsSide n box (bares (k ∷ links)) t w → IsThread set W marks form n box k links t w
   from_side native.Get box (Lk m from to i callee s l wl x old was) links t w h = (h.0, h.1, h.2, h.3, h.4 ∙ ap (λ (fs : List Frame). Run m from l h.1 x fs w) (frames_bare links))
+  from_side native.PutWait box (Lk m from to i callee s l wl x old was) links t w h = (h.0, h.1, h.2, h.3, h.4, h.5, h.6, h.7 ∙ ap (λ (fs : List Frame). Run m from l h.4 x fs (together h.0.heap h.1 w)) (frames_bare links))
   from_side n box (Lk m from to i callee s l wl x old was) links t w h = h ∙ ap (λ (fs : List Frame). Run m to l s x fs w) (frames_bare links)
 
   frame_count : (links : List Link) → length (u_frames links) ≡ count_of links
@@ -110,31 +116,36 @@ module _ (set : Setting) (W : Program) (marks : List (List Bool)) (most : ℕ) (
     high : stack_limit set.program m + 4 ≤ stack_limit W m
     high = (facts m).higher grp.has_calls
 
-    -- those that pause give nothing away
-    keeps_pausing : (o : Option Native) (args : List Value) (r : Root) (n : ℕ) → ((k : Native) → o ≡ Some k → is_pausing_native k ≡ true) → given o args ≡ Some (r, n) → ⊥
-    keeps_pausing (Some native.Get) args r n pn g = path.none_given (r, n) g
-    keeps_pausing (Some native.Yield) args r n pn g = path.none_given (r, n) g
-    keeps_pausing (Some native.Execute) args r n pn g = path.none_given (r, n) g
-    keeps_pausing (Some native.Start) args r n pn g = false≢true (pn native.Start refl)
-    keeps_pausing (Some native.Put) args r n pn g = false≢true (pn native.Put refl)
-    keeps_pausing (Some native.PutWait) args r n pn g = false≢true (pn native.PutWait refl)
-    keeps_pausing o args r n pn g = path.none_given (r, n) g
+    -- those that pause give away what they give without the fiber
+    same_given : (o : Option Native) (args : List Value) (r : Root) (n : ℕ) → ((k : Native) → o ≡ Some k → is_pausing_native k ≡ true) → given o (args ++ value.Fiber ∷ []) ≡ Some (r, n) → given o args ≡ Some (r, n)
+    same_given (Some native.PutWait) (value.Box box ∷ value.Ref k ∷ []) r n pn g = g
+    same_given (Some native.PutWait) (value.Box box ∷ value.Ref k ∷ y ∷ ys) r n pn g = absurd (path.none_given (r, n) (sym (too_many y ys) ∙ g))
+      where
+        too_many : (y : Value) (ys : List Value) → given (Some native.PutWait) (value.Box box ∷ value.Ref k ∷ y ∷ (ys ++ value.Fiber ∷ [])) ≡ None
+        too_many value.Fiber [] = refl
+        too_many value.Fiber (z ∷ zs) = refl
+        too_many y ys = refl
+    same_given (Some native.PutWait) args r n pn g = absurd (path.none_given (r, n) g)
+    same_given (Some native.Start) args r n pn g = absurd (false≢true (pn native.Start refl))
+    same_given (Some native.Put) args r n pn g = absurd (false≢true (pn native.Put refl))
+    same_given o args r n pn g = absurd (path.none_given (r, n) g)
 
     -- the call has room with the fiber as it has without
     handed_room : (e : Effect) → Shape to l w.heap e → ((k : MethodId) (args s2 : List Value) → e ≡ Asks k args to l s2 w.heap → (member_of W k ≡ None) × ((n : Native) → native_of set.program k ≡ Some n → is_pausing_native n ≡ true))
-        → HasRoom set.program e m (bare_frames (u_frames links)) → path.Roomy set.program W m b w.heap (handed up wl e)
-    handed_room e (IsCall k args s2 d) nn r =
+        → HasRoom set.program e m (bare_frames (u_frames links)) → GivesWhole set.program set.program w.heap e → path.Roomy set.program W m b w.heap (handed up wl e)
+    handed_room e (IsCall k args s2 d) nn r gives =
         let a = (subst (λ (z : Effect). HasRoom set.program z m (bare_frames (u_frames links))) d r).fits in let h = high in
         subst (λ (z : Effect). path.Roomy set.program W m b w.heap (handed up wl z)) (sym d) (path.calls_room set.program W m b w.heap k (args ++ value.Fiber ∷ []) up wl s2 w.heap (omega (arith, a, h)))
-    handed_room e (IsNative k args s2 d) nn r =
+    handed_room e (IsNative k args s2 d) nn r gives =
         let a = (subst (λ (z : Effect). HasRoom set.program z m (bare_frames (u_frames links))) d r).fits in let h = high in
         let n = nn k args s2 d in
         subst (λ (z : Effect). path.Roomy set.program W m b w.heap (handed up wl z)) (sym d)
-        (path.asks_room set.program W m b w.heap k (args ++ value.Fiber ∷ []) up wl s2 w.heap (omega (arith, a, h))
-        (λ root at g. keeps_pausing (native_of set.program k) (args ++ value.Fiber ∷ []) root at n.1 (subst (λ (o : Option Native). given o (args ++ value.Fiber ∷ []) ≡ Some (root, at)) (rows.same_natives k n.0) g)))
-    handed_room e (IsRaise why d) nn r = subst (λ (z : Effect). path.Roomy set.program W m b w.heap (handed up wl z)) (sym d) (record { unstuck = refl; fits = omega arith; result = tt }, tt, tt)
-    handed_room e (IsEnd why d) nn r = subst (λ (z : Effect). path.Roomy set.program W m b w.heap (handed up wl z)) (sym d) (record { unstuck = refl; fits = omega arith; result = tt }, tt, tt)
-    handed_room e (IsStuck d) nn r = subst (λ (z : Effect). path.Roomy set.program W m b w.heap (handed up wl z)) (sym d) (record { unstuck = (subst (λ (z : Effect). HasRoom set.program z m (bare_frames (u_frames links))) d r).unstuck; fits = omega arith; result = tt }, tt, tt)
+        (path.giving_room set.program W m b w.heap k (args ++ value.Fiber ∷ []) up wl s2 w.heap (omega (arith, a, h))
+        (λ root at g. subst (λ (z : Effect). GivesWhole set.program set.program w.heap z) d gives root at
+        (same_given (native_of set.program k) args root at n.1 (subst (λ (o : Option Native). given o (args ++ value.Fiber ∷ []) ≡ Some (root, at)) (rows.same_natives k n.0) g))))
+    handed_room e (IsRaise why d) nn r gives = subst (λ (z : Effect). path.Roomy set.program W m b w.heap (handed up wl z)) (sym d) (record { unstuck = refl; fits = omega arith; result = tt }, tt, tt)
+    handed_room e (IsEnd why d) nn r gives = subst (λ (z : Effect). path.Roomy set.program W m b w.heap (handed up wl z)) (sym d) (record { unstuck = refl; fits = omega arith; result = tt }, tt, tt)
+    handed_room e (IsStuck d) nn r gives = subst (λ (z : Effect). path.Roomy set.program W m b w.heap (handed up wl z)) (sym d) (record { unstuck = (subst (λ (z : Effect). HasRoom set.program z m (bare_frames (u_frames links))) d r).unstuck; fits = omega arith; result = tt }, tt, tt)
 
     goes_down : To c (WRun m ((form m).at p) wl s b (Fiber_at (left_overs links) (Saved old was []) [] false false) w ps) (suc (suc c)) call_state
     goes_down =
@@ -219,7 +230,7 @@ module _ (set : Setting) (W : Program) (marks : List (List Bool)) (most : ℕ) (
       get_does u k (box ∷ []) s2 e hn ok time eu ew few2 here_ok held = by ps ew
         where
           rd : (w.kept ≡ None) × AreReady set W marks form w.heap (Leaf native.Get) box (link s2 ∷ links)
-          rd = known.ready m p to i callee l s s2 (box ∷ []) wl x old was links w k native.Get typed hf hp e hn refl (all_stand links fine.stacked)
+          rd = known.ready m p to i callee l s s2 (box ∷ []) wl x old was links w k native.Get typed hf hp e hn refl (all_stand links fine.stacked) tt
 
           sides : List Link
           sides = bares (link s2 ∷ links)
@@ -231,6 +242,85 @@ module _ (set : Setting) (W : Program) (marks : List (List Bool)) (most : ℕ) (
           by [] ew = leaf.takes_match set W marks most Q runs members form facts rows enough box w (bares (link s2 ∷ links)) rd.0 time u (suc (suc c)) m p to i callee s2 l wl x old was links (value.Fiber ∷ s) empty_record false ps [] (omega (arith, few)) (good s2 few2) fine.stacked eu ew here_ok held
           by (n ∷ rest) ew = leaf.gets_match set W marks most Q runs members form facts rows enough box w (bares (link s2 ∷ links)) rd.0 time n rest u (suc (suc c)) m p to i callee s2 l wl x old was links (value.Fiber ∷ s) empty_record false ps
               (rests_get box k s2 e hn) refl (omega (arith, few)) deep (good s2 few2) fine.stacked rd.1 eu2 ew here_ok held
+
+      -- a put that waits
+      module _ (box : BoxName) (n : ℕ) (shape : List Token) (has : shape_of set.program w.heap n ≡ Some shape) where
+        rests_put : (k : MethodId) (s2 : List Value) → does set.program (own_of set.program m) i to l s w.heap ≡ Asks k (value.Box box ∷ value.Ref n ∷ []) to l s2 w.heap → native_of set.program k ≡ Some native.PutWait
+            → leaf.Rests set W marks most Q runs members form facts rows enough native.PutWait (value.Box box) (bares (link s2 ∷ links)) (apart set n shape w)
+        rests_put k s2 e hn k2 links2 k0 ks ps2 sides rev good2 goods2 ready2 =
+            q_ok (Fiber_at [] (record_of set W marks form k0) (first_record set W marks form (value.Box box) ks ∷ next_records set W marks form (value.Box box) ks) false true) (apart set n shape w) ps2
+            (inl (
+              native.PutWait,
+              value.Box box,
+              k2,
+              links2,
+              k0,
+              ks,
+              rev,
+              refl,
+              from_side native.PutWait (value.Box box) k2 links2 here (apart set n shape w)
+                  (subst (λ (z : List Link). IsSide native.PutWait (value.Box box) z here (apart set n shape w)) (sym sides)
+                  (to_side native.PutWait (value.Box box) (link s2) links here (apart set n shape w) (record { root = n; shape = shape; heap = w.heap }, w.aside, refl, k, s, e, hn, refl))),
+              good2,
+              goods2,
+              ready2,
+            ))
+
+      wait_does : (u : Thread) (k : MethodId) (args s2 : List Value) → does set.program (own_of set.program m) i to l s w.heap ≡ Asks k args to l s2 w.heap → native_of set.program k ≡ Some native.PutWait → u ≢ Stop Lost → nat_le set.limits.steps w.done ≡ false
+          → u ≡ native_does set w Stop (λ (a : World) (v : Option Value). Run m to l (push v s2) x (u_frames links) a) native.PutWait args
+          → wstep set W marks call_state ≡ putting set W marks (leaf.goes_on set W marks most Q runs members form facts rows enough m up wl s2 b) args f1 w ps
+          → length s2 ≤ stack_limit set.program m → Q call_state → NextHeld set u → M u (suc (suc c)) call_state
+      wait_does u k args s2 e hn ok time eu ew few2 here_ok held =
+          by args refl eu ew
+        where
+          rd : (box : BoxName) (n : ℕ) (shape : List Token) → args ≡ value.Box box ∷ value.Ref n ∷ [] → shape_of set.program w.heap n ≡ Some shape →
+              (w.kept ≡ None) × AreReady set W marks form (resting_heap set.program native.PutWait args w.heap) (Leaf native.PutWait) (leaf_receiver native.PutWait args) (link s2 ∷ links)
+          rd box n shape are has = known.ready m p to i callee l s s2 args wl x old was links w k native.PutWait typed hf hp e hn refl (all_stand links fine.stacked) (box, n, shape, are, has, time)
+
+          -- it is put now
+          now : (xs : List Value) (rest : List ℕ) → u ≡ native_does set w Stop (λ (a : World) (v : Option Value). Run m to l (push v s2) x (u_frames links) a) native.PutWait xs
+              → wstep set W marks call_state ≡ puts_now set W marks (leaf.goes_on set W marks most Q runs members form facts rows enough m up wl s2 b) xs f1 w rest → M u (suc (suc c)) call_state
+          now xs rest eu ew = wait.put_match set W marks most Q runs members form facts rows enough w time xs w u (suc (suc c)) m p to i callee s2 l wl x old was links (value.Fiber ∷ s) empty_record false ps rest refl (omega (arith, few)) (good s2 few2) fine.stacked eu ew here_ok held
+
+          waiting : (box : BoxName) (n : ℕ) (o : Option (List Token)) → shape_of set.program w.heap n ≡ o → args ≡ value.Box box ∷ value.Ref n ∷ [] → (j : ℕ) (rest : List ℕ)
+              → wstep set W marks call_state ≡ waits set W marks (leaf.goes_on set W marks most Q runs members form facts rows enough m up wl s2 b) (value.Box box ∷ value.Ref n ∷ []) f1 w (j ∷ rest) → M u (suc (suc c)) call_state
+          waiting box n o has are zero rest ew = now (value.Box box ∷ value.Ref n ∷ []) rest (eu ∙ ap (native_does set w Stop (λ (a : World) (v : Option Value). Run m to l (push v s2) x (u_frames links) a) native.PutWait) are) ew
+          waiting box n None has are (suc j) rest ew =
+              forward.both_end set W marks most Q runs members form facts rows enough u (suc (suc c)) m ((form m).call_at p) wl (value.Fiber ∷ s) b f1 w w ps cause.Large (omega (arith, few, enough))
+              (eu ∙ (ap (native_does set w Stop (λ (a : World) (v : Option Value). Run m to l (push v s2) x (u_frames links) a) native.PutWait) are ∙ ap (put_waits set w Stop (λ (a : World) (v : Option Value). Run m to l (push v s2) x (u_frames links) a) box n) has))
+              (ew ∙ (ap (λ (o : Option (List Token)). waits_on set W marks (leaf.goes_on set W marks most Q runs members form facts rows enough m up wl s2 b) box n o f1 w j rest) has ∙ ap (λ (t : Bool). if t then ending set w WStop cause.Spent else ending set w WStop cause.Large) time)) here_ok
+          waiting box n (Some shape) has are (suc j) rest ew =
+              wait.waits_match set W marks most Q runs members form facts rows enough box n shape w (bares (link s2 ∷ links)) has (rd box n shape are has).0 time (suc j) rest w u (suc (suc c)) m p to i callee s2 l wl x old was links (value.Fiber ∷ s) empty_record false ps refl
+              (rests_put box n shape has k s2 (e ∙ ap (λ (xs : List Value). Asks k xs to l s2 w.heap) are) hn) refl (omega (arith, few)) deep (good s2 few2) fine.stacked
+              (subst (λ (xs : List Value). AreReady set W marks form (resting_heap set.program native.PutWait xs w.heap) (Leaf native.PutWait) (leaf_receiver native.PutWait xs) (link s2 ∷ links)) are (rd box n shape are has).1)
+              (eu ∙ (ap (native_does set w Stop (λ (a : World) (v : Option Value). Run m to l (push v s2) x (u_frames links) a) native.PutWait) are
+              ∙ ap (λ (fs : List Frame). native_does set w Stop (λ (a : World) (v : Option Value). Run m to l (push v s2) x fs a) native.PutWait (value.Box box ∷ value.Ref n ∷ [])) (sym (frames_bare links))))
+              (ew ∙ wait.first_tries set W marks most Q runs members form facts rows enough box n shape w (bares (link s2 ∷ links)) has (rd box n shape are has).0 time (leaf.goes_on set W marks most Q runs members form facts rows enough m up wl s2 b) f1 (suc j) rest) here_ok held
+
+          -- by the number of pauses
+          pauses_by : (y z : Value) → args ≡ y ∷ z ∷ [] → u ≡ native_does set w Stop (λ (a : World) (v : Option Value). Run m to l (push v s2) x (u_frames links) a) native.PutWait (y ∷ z ∷ []) → (pauses : List ℕ)
+              → wstep set W marks call_state ≡ waits set W marks (leaf.goes_on set W marks most Q runs members form facts rows enough m up wl s2 b) (y ∷ z ∷ []) f1 w pauses → M u (suc (suc c)) call_state
+          pauses_by (value.Box box) (value.Ref n) are eu [] ew = now (value.Box box ∷ value.Ref n ∷ []) [] eu ew
+          pauses_by (value.Box box) (value.Ref n) are eu (j ∷ rest) ew = waiting box n (shape_of set.program w.heap n) refl are j rest ew
+          pauses_by (value.Box box) value.Null are eu [] ew = now (value.Box box ∷ value.Null ∷ []) [] eu ew
+          pauses_by (value.Box box) value.Null are eu (zero ∷ rest) ew = now (value.Box box ∷ value.Null ∷ []) rest eu ew
+          pauses_by (value.Box box) value.Null are eu (suc j ∷ rest) ew = now (value.Box box ∷ value.Null ∷ []) (suc j ∷ rest) eu ew
+          pauses_by y z are eu pauses ew = absurd (ok eu)
+
+          by : (xs : List Value) → args ≡ xs → u ≡ native_does set w Stop (λ (a : World) (v : Option Value). Run m to l (push v s2) x (u_frames links) a) native.PutWait xs
+              → wstep set W marks call_state ≡ putting set W marks (leaf.goes_on set W marks most Q runs members form facts rows enough m up wl s2 b) xs f1 w ps → M u (suc (suc c)) call_state
+          by (y ∷ z ∷ []) are eu ew = pauses_by y z are eu ps ew
+          by [] are eu ew = absurd (ok eu)
+          by (v ∷ []) are eu ew = absurd (ok (eu ∙ too_short v))
+            where
+              too_short : (v : Value) → native_does set w Stop (λ (a : World) (v : Option Value). Run m to l (push v s2) x (u_frames links) a) native.PutWait (v ∷ []) ≡ Stop Lost
+              too_short (value.Box t) = refl
+              too_short v = refl
+          by (v ∷ y ∷ z ∷ vs) are eu ew = absurd (ok (eu ∙ too_long v))
+            where
+              too_long : (v : Value) → native_does set w Stop (λ (a : World) (v : Option Value). Run m to l (push v s2) x (u_frames links) a) native.PutWait (v ∷ y ∷ z ∷ vs) ≡ Stop Lost
+              too_long (value.Box t) = refl
+              too_long v = refl
 
       rests_yield : (s2 : List Value) → step set here ≡ Run m to l s2 x (u_frames links) (counted w) → leaf.Rests set W marks most Q runs members form facts rows enough native.Yield value.Null (bares (link s2 ∷ links)) (counted w)
       rests_yield s2 e k2 links2 k0 ks ps2 sides rev good2 goods2 ready2 =
@@ -255,7 +345,7 @@ module _ (set : Setting) (W : Program) (marks : List (List Bool)) (most : ℕ) (
           → wstep set W marks call_state ≡ yielding set W marks (leaf.goes_on set W marks most Q runs members form facts rows enough m up wl s2 b) args f1 w ps
           → length s2 ≤ stack_limit set.program m → Q call_state → NextHeld set u → M u (suc (suc c)) call_state
       yield_does u k [] s2 e hn ok es eu ew few2 here_ok held =
-          let rd = known.ready m p to i callee l s s2 [] wl x old was links w k native.Yield typed hf hp e hn refl (all_stand links fine.stacked) in
+          let rd = known.ready m p to i callee l s s2 [] wl x old was links w k native.Yield typed hf hp e hn refl (all_stand links fine.stacked) tt in
           leaf.yields_match set W marks most Q runs members form facts rows enough w (bares (link s2 ∷ links)) u (suc (suc c)) m p to i callee s2 l wl x old was links (value.Fiber ∷ s) empty_record ps rd.0
           (rests_yield s2 (es ∙ eu)) refl (omega (arith, few)) deep (good s2 few2) fine.stacked rd.1
           (eu ∙ ap (λ (fs : List Frame). Run m to l s2 x fs (counted w)) (sym (frames_bare links))) ew here_ok
@@ -268,6 +358,7 @@ module _ (set : Setting) (W : Program) (marks : List (List Bool)) (most : ℕ) (
           → length s2 ≤ stack_limit set.program m → Q call_state → NextHeld set u → M u (suc (suc c)) call_state
       native_does_match u k args s2 native.Get e hn pn ok time es eu ew few2 here_ok held = get_does u k args s2 e hn ok time eu (ew ∙ ap (λ (o : Option (List Value)). handed_does set W marks (leaf.goes_on set W marks most Q runs members form facts rows enough m up wl s2 b) native.Get o f1 w ps) (without_last args)) few2 here_ok held
       native_does_match u k args s2 native.Yield e hn pn ok time es eu ew few2 here_ok held = yield_does u k args s2 e hn ok es eu (ew ∙ ap (λ (o : Option (List Value)). handed_does set W marks (leaf.goes_on set W marks most Q runs members form facts rows enough m up wl s2 b) native.Yield o f1 w ps) (without_last args)) few2 here_ok held
+      native_does_match u k args s2 native.PutWait e hn pn ok time es eu ew few2 here_ok held = wait_does u k args s2 e hn ok time eu (ew ∙ ap (λ (o : Option (List Value)). handed_does set W marks (leaf.goes_on set W marks most Q runs members form facts rows enough m up wl s2 b) native.PutWait o f1 w ps) (without_last args)) few2 here_ok held
       native_does_match u k args s2 native.Execute e hn pn ok time es eu ew few2 here_ok held =
           let z = native_same set w Stop (λ (a : World) (v : Option Value). Run m to l (push v s2) x (u_frames links) a) native.Execute args in
           let y = native_same set w WStop (λ (a : World) (v : Option Value). WRun m up wl (push v s2) b f1 a ps) native.Execute args in
@@ -321,7 +412,7 @@ module _ (set : Setting) (W : Program) (marks : List (List Bool)) (most : ℕ) (
               (path.next_room set W marks m ((form m).call_at p) wl (value.Fiber ∷ s) b f1 w ps i up true (handed up wl (does set.program (own_of set.program m) i to l s w.heap)) grp.call
               (rows.hands m p i callee to up l wl s w.heap hf hp (known.old_heap m p l s x (u_frames links) w typed) (known.clean m p to i l s x (u_frames links) w typed hf))
               (handed_room (does set.program (own_of set.program m) i to l s w.heap) (rows.shapes m i callee to l s w.heap hp)
-              (λ k args s2 d. rows.natives m p i callee to l s s2 args w.heap k hf hp (known.clean m p to i l s x (u_frames links) w typed hf) d) (known.room m p to i l s x (u_frames links) w typed hf)) (λ on. absurd (false≢true on)))
+              (λ k args s2 d. rows.natives m p i callee to l s s2 args w.heap k hf hp (known.clean m p to i l s x (u_frames links) w typed hf) d) (known.room m p to i l s x (u_frames links) w typed hf) (known.gives m p to i l s x (u_frames links) w typed hf)) (λ on. absurd (false≢true on)))
               (tt, th)
 
           next_held : NextHeld set (step set here)

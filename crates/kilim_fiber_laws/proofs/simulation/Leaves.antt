@@ -81,7 +81,7 @@ module _ (set : Setting) (W : Program) (marks : List (List Bool)) (most : ℕ) (
   Rests leaf box sides w = (k : Link) (links : List Link) (k0 : Link) (ks : List Link) (ps : List ℕ) → bares (k ∷ links) ≡ sides → rev_onto (k ∷ links) [] ≡ k0 ∷ ks → Good set W marks form k → Goods set W marks form links
       → AreReady set W marks form w.heap (Leaf leaf) box (k ∷ links) → Q (at_rest set W marks form box k0 ks w ps)
 
-  rest_has : (leaf : Native) (box : Value) (sides : List Link) (w : World) (ps : List ℕ) (k : Link) (links : List Link) → Rests leaf box sides w → bares (k ∷ links) ≡ sides → Good set W marks form k → Goods set W marks form links
+  pub rest_has : (leaf : Native) (box : Value) (sides : List Link) (w : World) (ps : List ℕ) (k : Link) (links : List Link) → Rests leaf box sides w → bares (k ∷ links) ≡ sides → Good set W marks form k → Goods set W marks form links
       → AreReady set W marks form w.heap (Leaf leaf) box (k ∷ links) → (ks : List Link) → rev_onto (k ∷ links) [] ≡ ks → Q (rests set W marks most Q runs members form facts box ks w ps)
   rest_has leaf box sides w ps k links q e g gs r [] h = let n = pause.count_rev (k ∷ links) [] in let z = ap count_of h in absurd (omega (arith, n, z))
   rest_has leaf box sides w ps k links q e g gs r (k0 ∷ ks) h = q k links k0 ks ps e h g gs r
@@ -90,13 +90,18 @@ module _ (set : Setting) (W : Program) (marks : List (List Bool)) (most : ℕ) (
   goes_on m q wl s b f2 a rest v = WRun m q wl (push v s) b f2 a rest
 
   -- a leaf gives nothing away
-  keeps_leaf : (leaf : Native) (args : List Value) (box : Value) (r : Root) (n : ℕ) (first : List Value) (result : Option Ty) → LeafTakes set W marks form leaf first box result → given (Some leaf) args ≡ Some (r, n) → ⊥
-  keeps_leaf native.Get args box r n first result takes g = path.none_given (r, n) g
-  keeps_leaf native.Yield args box r n first result takes g = path.none_given (r, n) g
-  keeps_leaf leaf args box r n first result takes g = absurd takes
+  keeps_leaf : (leaf : Native) (box : Value) (r : Root) (n : ℕ) (first : List Value) (result : Option Ty) → LeafTakes set W marks form leaf first box result → given (Some leaf) (first ++ value.Fiber ∷ []) ≡ Some (r, n) → ⊥
+  keeps_leaf native.Get box r n first result takes g = path.none_given (r, n) g
+  keeps_leaf native.Yield box r n first result takes g = path.none_given (r, n) g
+  keeps_leaf native.PutWait box r n first result takes g = path.none_given (r, n) (sym (null_given box) ∙ (ap (λ (xs : List Value). given (Some native.PutWait) (xs ++ value.Fiber ∷ [])) (sym takes.0) ∙ g))
+    where
+      null_given : (y : Value) → given (Some native.PutWait) (y ∷ value.Null ∷ value.Fiber ∷ []) ≡ None
+      null_given (value.Box b) = refl
+      null_given y = refl
+  keeps_leaf leaf box r n first result takes g = absurd takes
 
   -- the call of the leaf again
-  calls_again : (box : Value) (w : World) (leaf : Native) (m : MethodId) (from to : ℕ) (i : Instr) (callee : Method) (s l wl : List Value) (self : Value) (old : ℕ) (was : Value) (links : List Link) (ps : List ℕ)
+  pub calls_again : (box : Value) (w : World) (leaf : Native) (m : MethodId) (from to : ℕ) (i : Instr) (callee : Method) (s l wl : List Value) (self : Value) (old : ℕ) (was : Value) (links : List Link) (ps : List ℕ)
       → Good set W marks form (Lk m from to i callee s l wl self old was) → AreReady set W marks form w.heap (Leaf leaf) box (Lk m from to i callee s l wl self old was ∷ links)
       → (args : List Value) × LeafTakes set W marks form leaf args box callee.result
       × (wstep set W marks (at_leaf set W marks form box (Lk m from to i callee s l wl self old was) links w ps)
@@ -120,7 +125,7 @@ module _ (set : Setting) (W : Program) (marks : List (List Bool)) (most : ℕ) (
         runs m ((form m).call_at from) wl (value.Fiber ∷ again callee box s) (w_frames set W marks form links) f2 w ps
             (path.next_room set W marks m ((form m).call_at from) wl (value.Fiber ∷ again callee box s) (w_frames set W marks form links) f2 w ps i q true (Asks redo.0 (redo.1 ++ value.Fiber ∷ []) q wl s w.heap) g.call
             (rows.hands m from i callee to q wl wl (again callee box s) w.heap good.0 good.1 ready.0.4 ready.0.5 ∙ ap (handed q wl) (redo.2 wl s))
-            (path.asks_room set.program W m (w_frames set W marks form links) w.heap redo.0 (redo.1 ++ value.Fiber ∷ []) q wl s w.heap (omega (arith, low, high)) (λ r n g. keeps_leaf leaf (redo.1 ++ value.Fiber ∷ []) box r n redo.1 callee.result redo.4 (subst (λ (o : Option Native). given o (redo.1 ++ value.Fiber ∷ []) ≡ Some (r, n)) (rows.same_natives redo.0 nn.0 ∙ redo.3) g))) (λ on. absurd (false≢true on)))
+            (path.asks_room set.program W m (w_frames set W marks form links) w.heap redo.0 (redo.1 ++ value.Fiber ∷ []) q wl s w.heap (omega (arith, low, high)) (λ r n g. keeps_leaf leaf box r n redo.1 callee.result redo.4 (subst (λ (o : Option Native). given o (redo.1 ++ value.Fiber ∷ []) ≡ Some (r, n)) (rows.same_natives redo.0 nn.0 ∙ redo.3) g))) (λ on. absurd (false≢true on)))
             (tt, again_there set W marks most Q runs members form facts rows.hands w.heap callee (below (plan_of set W marks form m) callee from) (receiver (plan_of set W marks form m) callee from) box s ready.0.0 ready.0.2),
       )
 

@@ -62,6 +62,10 @@ module _ (P W : Program) (m : MethodId) (b : List Activation) (now : Objects) wh
   pub calls_room : (c : MethodId) (args : List Value) (q : ℕ) (l s : List Value) (heap : Objects) → length s ≤ stack_limit W m → Roomy (Calls c args q l s heap)
   calls_room c args q l s heap r = (record { unstuck = refl; fits = r; result = tt }, tt, tt)
 
+  -- one that gives away what is whole
+  pub giving_room : (c : MethodId) (args : List Value) (q : ℕ) (l s : List Value) (heap : Objects) → length s < stack_limit W m → GivesWhole P W now (Asks c args q l s heap) → Roomy (Asks c args q l s heap)
+  giving_room c args q l s heap r gives = (record { unstuck = refl; fits = omega (arith, r); result = λ g. r }, λ k is. r, gives)
+
   pub asks_room : (c : MethodId) (args : List Value) (q : ℕ) (l s : List Value) (heap : Objects) → length s < stack_limit W m → ((root : Root) (n : ℕ) → given (native_of W c) args ≡ Some (root, n) → ⊥) → Roomy (Asks c args q l s heap)
   asks_room c args q l s heap r keeps = (record { unstuck = refl; fits = omega (arith, r); result = λ gives. r }, λ k is. r, λ root n e. absurd (keeps root n e))
 

@@ -56,6 +56,7 @@ module _ (set : Setting) (W : Program) (marks : List (List Bool)) (most : ℕ) (
       → wnative set W marks go n args f w ps ≡ native_does set w WStop (λ (a : World) (v : Option Value). go f a ps v) n args
   plain_native go native.Get args f w ps h = absurd (false≢true (sym h))
   plain_native go native.Yield args f w ps h = absurd (false≢true (sym h))
+  plain_native go native.PutWait args f w ps h = absurd (false≢true (sym h))
   plain_native go native.Execute args f w ps h = absurd (false≢true (sym h))
   plain_native go n args f w ps h = refl
 

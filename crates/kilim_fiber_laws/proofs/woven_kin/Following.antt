@@ -1,5 +1,6 @@
 -- What a fiber does next is what the woven machine's does next.
 use Rattle.std.proofs.Common.{◌≡◌, ℕ, ◌+◌, ℤ, pos, Bool, true, false, cond, not, List, ◌∷◌, map, Option, Some, None, refl, sym, ap, subst, ◌∙◌, [], zero, suc, negsuc}
+use Rattle.kilim_fiber_spec.specs.Acts.{Apart}
 use Rattle.std.specs.Prelude.{nat_lt, nat_le, ◌&&◌}
 use Rattle.std.specs.FinMap.{get, insert}
 use Rattle.kilim_program.specs.Program.{Program}
@@ -40,8 +41,8 @@ use Rattle.kilim_fiber_spec.proofs.fiber_kin.Added.{added, added_new, added_old,
 use Rattle.kilim_fiber_spec.proofs.fiber_kin.Nexts.{again}
 use Rattle.kilim_fiber_spec.specs.Fibers.{Fib, Fiber_at, Rec, Saved, executes_on, first_receiver, is_pausing, is_rewinding, member_does, one_if, pausing, place_while, raised, rewound, wfetch}
 use Rattle.kilim_fiber_laws.specs.woven_kin.Standing.{Standing}
-use Rattle.kilim_fiber_laws.specs.woven_kin.Nexts.{Next, Goes, Gets, Rests, Ends, Stands, counted, ticked, with_result, put_next, message_next, start_next, print_next, arg_next, paused_at, taken_at, get_next, yield_next, native_next, asks_next, opens_next, begun_in, begun_with, begins_next, finish_next, stood, next_by, spent_or, found_next, resumes_next, next_in, next_of, put_wait_next, wait_next, bound_next}
-use Rattle.kilim_fiber_laws.specs.woven_kin.Alike.{RecordKin, RecordsKin, FibersKin, IsLike, Like, NextLike, GivesWhole, IsWholeAt, IsWhole, makes_at, is_end, HasFree, spends}
+use Rattle.kilim_fiber_laws.specs.woven_kin.Nexts.{Next, Goes, Gets, Rests, Ends, Stands, counted, ticked, with_result, put_next, message_next, start_next, print_next, arg_next, paused_at, taken_at, get_next, yield_next, native_next, asks_next, opens_next, begun_in, begun_with, begins_next, finish_next, stood, next_by, spent_or, found_next, resumes_next, next_in, next_of, put_wait_next, wait_next, bound_next, PutsAgain, first_wait, putw_next, wait_again, waiting_at}
+use Rattle.kilim_fiber_laws.specs.woven_kin.Alike.{RecordKin, RecordsKin, FibersKin, IsLike, Like, NextLike, GivesWhole, IsWholeAt, IsWhole, makes_at, is_end, HasFree, spends, ApartKin}
 use Rattle.kilim_fiber_laws.proofs.woven_kin.Records.{fibers_up, rewinding_same, pausing_same, rewound_kin, pausing_kin, resumed_kin, receiver_kin}
 
 -- ---- the frames with which a method begins
@@ -71,7 +72,7 @@ module _ (set : Setting) (W : Program) (of : Names) (t : ℕ) (a b : Standing) (
   -- ---- the two at other frames, with other records, or counts, with the same heaps
 
   like_at : (fs gs : List Activation) (f g : Fib) (done boxes : ℕ) → FramesKin of fs gs → FibersKin of f g → IsLike of (record a { frames = fs; fiber = f; done = done; boxes = boxes }) (record b { frames = gs; fiber = g; done = done; boxes = boxes })
-  like_at fs gs f g done boxes e d = record { frames = e; fiber = d; heaps = kin.heaps; done = refl; boxes = refl; kept = kin.kept; below = kin.below }
+  like_at fs gs f g done boxes e d = record { frames = e; fiber = d; heaps = kin.heaps; done = refl; boxes = refl; kept = kin.kept; aside = kin.aside; below = kin.below }
 
   like_of : (x y : Standing) → IsLike of x y → Like x y
   like_of x y e = record { of = of; is = e }
@@ -84,14 +85,14 @@ module _ (set : Setting) (W : Program) (of : Names) (t : ℕ) (a b : Standing) (
   ticked_like false x y e = e
   ticked_like true x y e =
       let i = e.is in
-      record { of = e.of; is = record { frames = i.frames; fiber = i.fiber; heaps = i.heaps; done = ap (λ (n : ℕ). n + 1) i.done; boxes = i.boxes; kept = i.kept; below = i.below } }
+      record { of = e.of; is = record { frames = i.frames; fiber = i.fiber; heaps = i.heaps; done = ap (λ (n : ℕ). n + 1) i.done; boxes = i.boxes; kept = i.kept; aside = i.aside; below = i.below } }
 
   -- ---- moves that go on
 
   runs_kin : (counts : Bool) (h k : Objects) (fs gs : List Activation) → FramesKin of fs gs → Alike of all_mine 0 b.heap h k → Fits (Goes (ticked counts (stood a fs h))) (Goes (ticked counts (stood b gs k)))
   runs_kin counts h k fs gs e alike = ticked_like counts (stood a fs h) (stood b gs k) (record {
     of = of;
-    is = record { frames = e; fiber = kin.fiber; heaps = again of b.heap h k alike; done = kin.done; boxes = kin.boxes; kept = kin.kept; below = kin.below };
+    is = record { frames = e; fiber = kin.fiber; heaps = again of b.heap h k alike; done = kin.done; boxes = kin.boxes; kept = kin.kept; aside = kin.aside; below = kin.below };
   })
 
   -- one that makes an object, at a place that was free
@@ -109,6 +110,7 @@ module _ (set : Setting) (W : Program) (of : Names) (t : ℕ) (a b : Standing) (
           done = kin.done;
           boxes = kin.boxes;
           kept = name_up of more up a.kept b.kept kin.kept;
+          aside = kin.aside;
           below = added_bound of a.next b.next kin.below;
         };
       })
@@ -119,7 +121,7 @@ module _ (set : Setting) (W : Program) (of : Names) (t : ℕ) (a b : Standing) (
       let box : Value = Box (record { task = t; number = boxes }) in
       ticked_like counts _ _ (record {
         of = of;
-        is = record { frames = kin_push of box box fs gs refl frames; fiber = kin.fiber; heaps = kin.heaps; done = kin.done; boxes = refl; kept = kin.kept; below = kin.below };
+        is = record { frames = kin_push of box box fs gs refl frames; fiber = kin.fiber; heaps = kin.heaps; done = kin.done; boxes = refl; kept = kin.kept; aside = kin.aside; below = kin.below };
       })
 
   opens_with : (counts : Bool) (fs gs : List Activation) (boxes : ℕ) → FramesKin of fs gs → Fits (opens_next t counts (record a { frames = fs; boxes = boxes })) (opens_next t counts (record b { frames = gs; boxes = boxes }))
@@ -138,11 +140,11 @@ module _ (set : Setting) (W : Program) (of : Names) (t : ℕ) (a b : Standing) (
   begins_kin : (f g : Option (List Activation)) → MaybeFrames of f g → Fits (begins_next a f) (begins_next b g)
   begins_kin None None e = tt
   begins_kin (Some []) (Some []) e = refl
-  begins_kin (Some (f ∷ fs)) (Some (g ∷ gs)) e = record { of = of; is = record { frames = e; fiber = kin.fiber; heaps = kin.heaps; done = ap (λ (n : ℕ). n + 1) kin.done; boxes = kin.boxes; kept = tt; below = kin.below } }
+  begins_kin (Some (f ∷ fs)) (Some (g ∷ gs)) e = record { of = of; is = record { frames = e; fiber = kin.fiber; heaps = kin.heaps; done = ap (λ (n : ℕ). n + 1) kin.done; boxes = kin.boxes; kept = tt; aside = kin.aside; below = kin.below } }
   begins_kin _ _ e = absurd e
 
   rests_kin : (pauses : Bool) → Fits (cond pauses (Rests (record a { frames = [] })) (Ends cause.Done)) (cond pauses (Rests (record b { frames = [] })) (Ends cause.Done))
-  rests_kin true = record { of = of; is = record { frames = tt; fiber = kin.fiber; heaps = kin.heaps; done = kin.done; boxes = kin.boxes; kept = kin.kept; below = kin.below } }
+  rests_kin true = record { of = of; is = record { frames = tt; fiber = kin.fiber; heaps = kin.heaps; done = kin.done; boxes = kin.boxes; kept = kin.kept; aside = kin.aside; below = kin.below } }
   rests_kin false = refl
 
   finish_kin : (n y : Option ℕ) → NameKin of n y → Fits (finish_next set W a n) (finish_next set W b y)
@@ -165,6 +167,7 @@ module _ (set : Setting) (W : Program) (of : Names) (t : ℕ) (a b : Standing) (
           done = kin.done;
           boxes = kin.boxes;
           kept = kin.kept;
+          aside = kin.aside;
           below = kin.below;
         };
       }
@@ -219,28 +222,40 @@ module _ (set : Setting) (W : Program) (of : Names) (t : ℕ) (a b : Standing) (
     AlsoFits x y = NextLike p x y
 
     both : IsLike of c d
-    both = record { frames = frames; fiber = kin.fiber; heaps = kin.heaps; done = kin.done; boxes = kin.boxes; kept = kin.kept; below = kin.below }
+    both = record { frames = frames; fiber = kin.fiber; heaps = kin.heaps; done = kin.done; boxes = kin.boxes; kept = kin.kept; aside = kin.aside; below = kin.below }
 
     counts_both : IsLike of (counted c) (counted d)
-    counts_both = record { frames = frames; fiber = kin.fiber; heaps = kin.heaps; done = ap (λ (n : ℕ). n + 1) kin.done; boxes = kin.boxes; kept = kin.kept; below = kin.below }
+    counts_both = record { frames = frames; fiber = kin.fiber; heaps = kin.heaps; done = ap (λ (n : ℕ). n + 1) kin.done; boxes = kin.boxes; kept = kin.kept; aside = kin.aside; below = kin.below }
 
     onward : Like (counted c) (counted d)
     onward = record { of = of; is = counts_both }
 
     onward_with : (v w : Value) → IsKin of v w → Like (with_result (Some v) (counted c)) (with_result (Some w) (counted d))
-    onward_with v w e = record { of = of; is = record { frames = kin_push of v w fs gs e frames; fiber = kin.fiber; heaps = kin.heaps; done = ap (λ (n : ℕ). n + 1) kin.done; boxes = kin.boxes; kept = kin.kept; below = kin.below } }
+    onward_with v w e = record { of = of; is = record { frames = kin_push of v w fs gs e frames; fiber = kin.fiber; heaps = kin.heaps; done = ap (λ (n : ℕ). n + 1) kin.done; boxes = kin.boxes; kept = kin.kept; aside = kin.aside; below = kin.below } }
 
     -- other records, and a result
     also_kin : (f g : Fib) (v w : Option Value) → FibersKin of f g → MaybeKin of v w → Like (record c { fiber = f; frames = push_result v fs }) (record d { fiber = g; frames = push_result w gs })
-    also_kin f g v w e k = record { of = of; is = record { frames = kin_result of v w fs gs k frames; fiber = e; heaps = kin.heaps; done = kin.done; boxes = kin.boxes; kept = kin.kept; below = kin.below } }
+    also_kin f g v w e k = record { of = of; is = record { frames = kin_result of v w fs gs k frames; fiber = e; heaps = kin.heaps; done = kin.done; boxes = kin.boxes; kept = kin.kept; aside = kin.aside; below = kin.below } }
 
     put_kin : (box : BoxName) (n x : ℕ) → of n ≡ Some x → IsWholeTree p OfMessage a.heap n → (s : Option (List Token)) → shape_of p a.heap n ≡ s → AlsoFits (put_next c box n s) (put_next d box x s)
     put_kin box n x e whole None is = refl
     put_kin box n x e whole (Some shape) is = (refl, refl, record { of = of; is = counts_both; named = e; whole = whole; has = is })
 
-    put_wait_kin : (box : BoxName) (n x : ℕ) → of n ≡ Some x → IsWholeTree p OfMessage a.heap n → (s : Option (List Token)) → shape_of p a.heap n ≡ s → AlsoFits (put_wait_next c box n s) (put_wait_next d box x s)
+    -- its next state, where it pauses or goes on
+    waiting_both : (box : BoxName) → IsLike of (waiting_at box c) (waiting_at box d)
+    waiting_both box = record { frames = frames; fiber = pausing_kin of (Box box) (Box box) refl a.fiber b.fiber kin.fiber; heaps = kin.heaps; done = kin.done; boxes = kin.boxes; kept = kin.kept; aside = kin.aside; below = kin.below }
+
+    taken_with : (ks ms : List Apart) → ApartKin ks ms → IsLike of (taken_at (record c { aside = ks })) (taken_at (record d { aside = ms }))
+    taken_with ks ms e = record { frames = frames; fiber = rewound_kin of a.fiber b.fiber kin.fiber; heaps = kin.heaps; done = ap (λ (n : ℕ). n + 1) kin.done; boxes = kin.boxes; kept = kin.kept; aside = e; below = kin.below }
+
+    put_wait_kin : (box : BoxName) (n x : ℕ) → of n ≡ Some x → IsWholeTree p OfMessage a.heap n → (s : Option (List Token)) → shape_of p a.heap n ≡ s → AlsoFits (put_wait_next p c box n s) (put_wait_next p d box x s)
     put_wait_kin box n x e whole None is = refl
-    put_wait_kin box n x e whole (Some shape) is = (refl, refl, record { of = of; is = counts_both; named = e; whole = whole; has = is })
+    put_wait_kin box n x e whole (Some shape) is = (
+      refl,
+      refl,
+      record { of = of; is = waiting_both box; named = e; whole = whole; has = is },
+      record { of = of; is = taken_with a.aside b.aside kin.aside; named = e; whole = whole; has = is },
+    )
 
     start_kin : (n x : ℕ) → of n ≡ Some x → IsWholeTree p OfTask a.heap n → (s : Option (List Token)) → shape_of p a.heap n ≡ s → AlsoFits (start_next c n s) (start_next d x s)
     start_kin n x e whole None is = refl
@@ -259,14 +274,36 @@ module _ (set : Setting) (W : Program) (of : Names) (t : ℕ) (a b : Standing) (
         (put_kin box n (number_of (of n)) e tree (shape_of p a.heap n) refl)
     message_kin box _ e whole = tt
 
-    wait_kin : (box : BoxName) (v : Value) → IsKin of v (renamed of v) → ((root : Root) (n : ℕ) → given (Some native.PutWait) (Box box ∷ v ∷ []) ≡ Some (root, n) → IsWholeTree p root a.heap n) →
+    wait_kin : (box : BoxName) (v : Value) → IsKin of v (renamed of v) → ((root : Root) (n : ℕ) → given (Some native.PutWait) (Box box ∷ v ∷ Fiber ∷ []) ≡ Some (root, n) → IsWholeTree p root a.heap n) →
         AlsoFits (wait_next p c box v) (wait_next p d box (renamed of v))
     wait_kin box Null e whole = refl
     wait_kin box (Ref n) e whole =
         let tree = whole OfMessage n refl in
-        subst (λ (z : Option (List Token)). AlsoFits (put_wait_next c box n (shape_of p a.heap n)) (put_wait_next d box (number_of (of n)) z)) (same_shape OfMessage n (number_of (of n)) e tree)
+        subst (λ (z : Option (List Token)). AlsoFits (put_wait_next p c box n (shape_of p a.heap n)) (put_wait_next p d box (number_of (of n)) z)) (same_shape OfMessage n (number_of (of n)) e tree)
         (put_wait_kin box n (number_of (of n)) e tree (shape_of p a.heap n) refl)
     wait_kin box _ e whole = tt
+
+    first_kin : (v u : Value) → IsKin of u (renamed of u) → ((root : Root) (n : ℕ) → given (Some native.PutWait) (v ∷ u ∷ Fiber ∷ []) ≡ Some (root, n) → IsWholeTree p root a.heap n) → AlsoFits (first_wait p c v u) (first_wait p d (renamed of v) (renamed of u))
+    first_kin (Box box) u e whole = wait_kin box u e whole
+    first_kin v u e whole = tt
+
+    -- made again: what stands apart has the same shapes
+    again_kin : (v : Value) (ks ms : List Apart) → ApartKin ks ms → AlsoFits (wait_again set c v ks) (wait_again set d (renamed of v) ms)
+    again_kin (Box box) (k ∷ ks) (m ∷ ms) e =
+        spent_kin true (PutsAgain box k.root k.shape (taken_at (record c { heap = k.heap; aside = ks })) (waiting_at box c) (taken_at (record c { aside = ks }))) (PutsAgain box m.root m.shape (taken_at (record d { heap = m.heap; aside = ms })) (waiting_at box d) (taken_at (record d { aside = ms })))
+        (λ left. (refl, e.0, ap (λ (n : ℕ). n + 1) kin.done, refl, record { of = of; is = waiting_both box }, record { of = of; is = taken_with ks ms e.1 }))
+    again_kin (Box box) [] [] e = tt
+    again_kin (Box box) [] (m ∷ ms) e = absurd e
+    again_kin (Box box) (k ∷ ks) [] e = absurd e
+    again_kin v ks ms e = tt
+
+    putw_kin : (z : Bool) (v u : Value) → IsKin of u (renamed of u) → ((root : Root) (n : ℕ) → given (Some native.PutWait) (v ∷ u ∷ Fiber ∷ []) ≡ Some (root, n) → IsWholeTree p root a.heap n) → AlsoFits (putw_next set z c v u) (putw_next set z d (renamed of v) (renamed of u))
+    putw_kin true v u e whole = again_kin v a.aside b.aside kin.aside
+    putw_kin false v u e whole = spent_kin true (first_wait p c v u) (first_wait p d (renamed of v) (renamed of u)) (λ left. first_kin v u e whole)
+
+    waits_kin : (v u : Value) → IsKin of u (renamed of u) → ((root : Root) (n : ℕ) → given (Some native.PutWait) (v ∷ u ∷ Fiber ∷ []) ≡ Some (root, n) → IsWholeTree p root a.heap n) →
+        AlsoFits (putw_next set (is_rewinding a.fiber) c v u) (putw_next set (is_rewinding b.fiber) d (renamed of v) (renamed of u))
+    waits_kin v u e whole = subst (λ (z : Bool). AlsoFits (putw_next set (is_rewinding a.fiber) c v u) (putw_next set z d (renamed of v) (renamed of u))) (rewinding_same of a.fiber b.fiber kin.fiber) (putw_kin (is_rewinding a.fiber) v u e whole)
 
     bound_kin : (box : BoxName) (i : ℤ) → AlsoFits (bound_next c box i) (bound_next d box i)
     bound_kin box (pos (suc n)) = (refl, refl, onward)
@@ -290,7 +327,7 @@ module _ (set : Setting) (W : Program) (of : Names) (t : ℕ) (a b : Standing) (
     mailbox_kin box = (
       refl,
       also_kin (pausing (Box box) a.fiber) (pausing (Box box) b.fiber) (Some Null) (Some Null) (pausing_kin of (Box box) (Box box) refl a.fiber b.fiber kin.fiber) tt,
-      record { of = of; is = record { frames = frames; fiber = rewound_kin of a.fiber b.fiber kin.fiber; heaps = kin.heaps; done = ap (λ (n : ℕ). n + 1) kin.done; boxes = kin.boxes; kept = kin.kept; below = kin.below } },
+      record { of = of; is = record { frames = frames; fiber = rewound_kin of a.fiber b.fiber kin.fiber; heaps = kin.heaps; done = ap (λ (n : ℕ). n + 1) kin.done; boxes = kin.boxes; kept = kin.kept; aside = kin.aside; below = kin.below } },
     )
 
     get_by : (v : Value) → AlsoFits (get_next c v) (get_next d (renamed of v))
@@ -304,7 +341,7 @@ module _ (set : Setting) (W : Program) (of : Names) (t : ℕ) (a b : Standing) (
     yield_by true = also_kin (rewound a.fiber) (rewound b.fiber) None None (rewound_kin of a.fiber b.fiber kin.fiber) tt
     yield_by false = record {
       of = of;
-      is = record { frames = frames; fiber = pausing_kin of Null Null tt a.fiber b.fiber kin.fiber; heaps = kin.heaps; done = ap (λ (n : ℕ). n + 1) kin.done; boxes = kin.boxes; kept = kin.kept; below = kin.below };
+      is = record { frames = frames; fiber = pausing_kin of Null Null tt a.fiber b.fiber kin.fiber; heaps = kin.heaps; done = ap (λ (n : ℕ). n + 1) kin.done; boxes = kin.boxes; kept = kin.kept; aside = kin.aside; below = kin.below };
     }
 
     yield_kin : AlsoFits (yield_next (is_rewinding a.fiber) c) (yield_next (is_rewinding b.fiber) d)
@@ -350,7 +387,7 @@ module _ (set : Setting) (W : Program) (of : Names) (t : ℕ) (a b : Standing) (
     native_kin native.Execute (Ref n ∷ Fiber ∷ []) e whole = onward
     native_kin native.Start (Ref n ∷ []) e whole = start_of_kin n e.0 (whole OfTask n refl)
     native_kin native.Put (Box box ∷ v ∷ []) e whole = message_kin box v e.1.0 whole
-    native_kin native.PutWait (Box box ∷ v ∷ []) e whole = wait_kin box v e.1.0 whole
+    native_kin native.PutWait (v ∷ u ∷ Fiber ∷ []) e whole = waits_kin v u e.1.0 whole
     native_kin native.Bound (Box box ∷ Int i ∷ []) e whole = bound_kin box i
     native_kin native.Get (v ∷ Fiber ∷ []) e whole = get_kin v
     native_kin native.Getnb (Box box ∷ []) e whole = (refl, onward)

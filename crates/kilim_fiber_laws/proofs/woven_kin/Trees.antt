@@ -113,7 +113,7 @@ module _ (p : Program) (root : Root) (n m : ℕ) (shape : List Token) (l f : Sta
   left =
       let w = left_like p root n m shape (as_lone l) (as_lone f) lone_giving given after tree out in
       let back = all_back g.of w.of l f g.is w.is.threads.0.4 in
-      record { of = w.of; is = record { frames = back.0; fiber = back.1; heaps = w.is.heaps; done = w.is.threads.1; boxes = w.is.threads.2; kept = w.is.kept; below = w.is.below } }
+      record { of = w.of; is = record { frames = back.0; fiber = back.1; heaps = w.is.heaps; done = w.is.threads.1; boxes = w.is.threads.2; kept = w.is.kept; aside = g.is.aside; below = w.is.below } }
 
   pub sound : IsSound p root tree shape
   sound =
@@ -148,6 +148,7 @@ came p root l f tree shape k x like sound put =
         done = is.threads.1;
         boxes = is.threads.2;
         kept = is.kept;
+        aside = like.is.aside;
         below = is.below;
       };
     }

@@ -26,7 +26,7 @@ use Rattle.kilim_run_model.specs.declared.deed.Beginning.TheVariants.{Boot, Begu
 use Rattle.kilim_run_model.specs.declared.deed.Deed.{Deed}
 use Rattle.kilim_run_model.specs.Course.{lone_begun, lone_built, lone_in}
 use Rattle.kilim_run_model.specs.Lone.{Lone}
-use Rattle.kilim_run_model.specs.State.{Alive, Setting, begun_in, begun_on, class_of, execute_frames}
+use Rattle.kilim_run_model.specs.State.{Setting, begun_in, begun_on, class_of, execute_frames}
 use Rattle.kilim_fiber_laws.specs.simulation.beginnings.Law.{ServesAlong}
 use Rattle.kilim_fiber_laws.proofs.receivers.called.Begins as called
 use Rattle.kilim_weave_spec.specs.Form.{WovenForm}

@@ -1,6 +1,6 @@
 -- The constructor of task 0 is the same method in the woven program.
-use Rattle.std.proofs.Common.{◌≡◌, ◌≢◌, ℕ, Bool, true, false, List, [], ◌∷◌, Option, Some, None, refl, sym, ap, subst, ◌∙◌}
-use Rattle.std.specs.Prelude.{◌&&◌, codes, if◌then◌else◌, is_none, length, slice_get}
+use Rattle.std.proofs.Common.{◌≡◌, ◌≢◌, ℕ, Bool, true, false, List, [], ◌∷◌, Option, Some, None, refl, sym, ap, ◌∙◌}
+use Rattle.std.specs.Prelude.{◌&&◌, codes, if◌then◌else◌, is_none}
 use Rattle.std.specs.Str.{bytes_eq}
 use Rattle.std.proofs.lemmas.Option.{slice_get_within}
 use Rattle.kilim_program.specs.declared.class.Class.{Class}
@@ -16,7 +16,6 @@ use Rattle.kilim_fiber_laws.proofs.receivers.called.Called.{no_pause}
 use Rattle.kilim_weave_spec.specs.Form.{WovenForm}
 use Rattle.kilim_weave_laws.proofs.woven_programs.kinds.Lines as lines
 use Rattle.kilim_weave_laws.proofs.woven_programs.Theorem as theorem
-use Rattle.kilim_fiber_spec.specs.Form.{is_pausable}
 use Rattle.kilim_fiber_laws.specs.woven_served.Served.{ConstructorIsSame}
 use Rattle.kilim_fiber_laws.proofs.stands.shares.Fibers as fibers_of
 use Rattle.kilim_fiber_laws.proofs.stands.shares.Names as names

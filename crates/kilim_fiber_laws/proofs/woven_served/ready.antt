@@ -13,4 +13,5 @@ pub mod Redone
 pub mod Shapes
 pub mod There
 pub mod Values
+pub mod Waiting
 pub mod Whole

@@ -22,7 +22,7 @@ use Rattle.kilim_weave_spec.specs.Woven.{pausable_callee}
 use Rattle.kilim_fiber_spec.specs.lone.Law.{lone_at}
 use Rattle.kilim_fiber_spec.specs.Acts.{Lost, World, asks, with_heap}
 use Rattle.kilim_fiber_spec.specs.Links.{AllStand, AreReady, Forms, Leaf, Link, Lk, u_frames}
-use Rattle.kilim_fiber_spec.specs.Serves.{From, Known, SelvesAreThere, is_leaf, leaf_receiver}
+use Rattle.kilim_fiber_spec.specs.Serves.{From, Known, SelvesAreThere, MayPause, is_leaf, leaf_receiver, resting_heap}
 use Rattle.kilim_fiber_spec.specs.Thread.{Frame, Run, Stop, Thread, fetch, own_of, push, step}
 
 -- It stands as the thread of its task does, right after the deeds of some course and further moves without an action. A thread that is
@@ -43,7 +43,7 @@ abbrev pub HasFew : Thread → Type 0
 HasFew (Run m p l s x b w) = suc (length b) ≤ 512
 HasFew (Stop over) = Unit {0}
 
--- What is left to be known: a built-in method gets arguments that it takes, the receiver of a pausable method is in the heap, and where the thread stands at a leaf, the calls of all
+-- What is left to be known: a built-in method gets arguments that it takes, the receiver of a pausable method is in the heap, and where the thread stands at a leaf that may pause, the calls of all
 -- frames below can be made again.
 pub record Rest (set : Setting) (W : Program) (marks : List (List Bool)) (form : Forms set W marks) (Typed : Thread → Type 0) : Type 0 where
   pub answers : (m : MethodId) (p to q : ℕ) (i : Instr) (l s l2 s2 args : List Value) (x : Value) (b : List Frame) (w : World) (heap : Objects) (c : MethodId) → Typed (Run m p l s x b w) → fetch set.program m p ≡ Some (i, to)
@@ -51,8 +51,8 @@ pub record Rest (set : Setting) (W : Program) (marks : List (List Bool)) (form :
   pub selves : SelvesAreThere set Typed
   pub ready : (m : MethodId) (p to : ℕ) (i : Instr) (callee : Method) (l s s2 args wl : List Value) (x : Value) (old : ℕ) (was : Value) (links : List Link) (w : World) (c : MethodId) (leaf : Native)
       → Typed (Run m p l s x (u_frames links) w) → fetch set.program m p ≡ Some (i, to) → pausable_callee set.program i ≡ Some callee
-      → does set.program (own_of set.program m) i to l s w.heap ≡ Asks c args to l s2 w.heap → native_of set.program c ≡ Some leaf → is_leaf leaf ≡ true → AllStand set W marks form links
-      → (w.kept ≡ None) × AreReady set W marks form w.heap (Leaf leaf) (leaf_receiver leaf args) (Lk m p to i callee s2 l wl x old was ∷ links)
+      → does set.program (own_of set.program m) i to l s w.heap ≡ Asks c args to l s2 w.heap → native_of set.program c ≡ Some leaf → is_leaf leaf ≡ true → AllStand set W marks form links → MayPause set leaf args w
+      → (w.kept ≡ None) × AreReady set W marks form (resting_heap set.program leaf args w.heap) (Leaf leaf) (leaf_receiver leaf args) (Lk m p to i callee s2 l wl x old was ∷ links)
 
 -- Of the thread of a course, in verified code whose threads keep what they reach: an instruction stands at its place, its objects are
 -- of the program's classes, no value on its stack is a fiber, a receiver is of the class that is named, a call has arguments as its

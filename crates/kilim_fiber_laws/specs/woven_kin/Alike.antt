@@ -1,6 +1,7 @@
 -- A woven fiber as the machine has it, with names that are never used again, and one whose heap has places that are used again: the
 -- same but for the names of objects.
 use Rattle.std.specs.Prelude.{◌≡◌, ◌<◌, ℕ, Bool, true, false, List, ◌∷◌, Some, None, [], Option, not, ◌&&◌, nat_le}
+use Rattle.kilim_fiber_spec.specs.Acts.{Apart}
 use Rattle.std.specs.FinMap.{get}
 use Rattle.kilim_program.specs.declared.instr.Instr.{Instr}
 use Rattle.kilim_program.specs.Program.{Program}
@@ -19,7 +20,7 @@ use Rattle.kilim_fiber_spec.specs.fiber_kin.Mine.{all_mine}
 use Rattle.kilim_fiber_spec.specs.fiber_kin.Acts.{is_making}
 use Rattle.kilim_fiber_spec.specs.Fibers.{Fib, Fiber_at, Rec, Saved, is_rewinding, wfetch}
 use Rattle.kilim_fiber_laws.specs.woven_kin.Standing.{Standing}
-use Rattle.kilim_fiber_laws.specs.woven_kin.Nexts.{Next, Goes, Puts, PutWaits, Bounds, Gets, Probes, Starts, Prints, Rests, Ends, Stands, next_of}
+use Rattle.kilim_fiber_laws.specs.woven_kin.Nexts.{Next, Goes, Puts, PutWaits, Bounds, Gets, Probes, Starts, Prints, Rests, Ends, Stands, next_of, PutsAgain}
 
 -- ---- records; `of` gives for a name the place
 
@@ -34,6 +35,14 @@ RecordsKin of rs ss = ⊥
 abbrev pub FibersKin : Names → Fib → Fib → Type 0
 FibersKin of (Fiber_at lo r de re pa) (Fiber_at lower s deeper rewinding pausing) = RecordsKin of lo lower × RecordKin of r s × RecordsKin of de deeper × (re ≡ rewinding) × (pa ≡ pausing)
 
+-- ---- trees that stand apart
+
+-- the same shapes, whatever their heaps
+abbrev pub ApartKin : List Apart → List Apart → Type 0
+ApartKin [] [] = Unit {0}
+ApartKin (k ∷ ks) (m ∷ ms) = (k.shape ≡ m.shape) × ApartKin ks ms
+ApartKin ks ms = ⊥
+
 -- ---- fibers
 
 -- `of` forgets no name, and two names that are both in the heap have different places. A frame or a record may hold a name whose object has
@@ -45,6 +54,7 @@ pub record IsLike (of : Names) (l f : Standing) : Type 0 where
   pub done : l.done ≡ f.done
   pub boxes : l.boxes ≡ f.boxes
   pub kept : NameKin of l.kept f.kept
+  pub aside : ApartKin l.aside f.aside
   pub below : (n x : ℕ) → of n ≡ Some x → n < l.next
 
 pub record Like (l f : Standing) : Type 0 where
@@ -63,7 +73,8 @@ pub record Giving (p : Program) (root : Root) (n m : ℕ) (shape : List Token) (
 abbrev pub NextLike : Program → Next → Next → Type 0
 NextLike p (Goes a) (Goes f) = Like a f
 NextLike p (Puts box n shape a) (Puts other m again f) = (box ≡ other) × (shape ≡ again) × Giving p OfMessage n m shape a f
-NextLike p (PutWaits box n shape a) (PutWaits other m again f) = (box ≡ other) × (shape ≡ again) × Giving p OfMessage n m shape a f
+NextLike p (PutWaits box n shape a b) (PutWaits other m again f g) = (box ≡ other) × (shape ≡ again) × Giving p OfMessage n m shape a f × Giving p OfMessage n m shape b g
+NextLike p (PutsAgain box n shape whole a b) (PutsAgain other m again full f g) = (box ≡ other) × (shape ≡ again) × (whole.done ≡ g.done) × (whole.aside ≡ b.aside) × Like a f × Like b g
 NextLike p (Bounds box most a) (Bounds other least f) = (box ≡ other) × (most ≡ least) × Like a f
 NextLike p (Gets box a b) (Gets other f g) = (box ≡ other) × Like a f × Like b g
 NextLike p (Probes box a) (Probes other f) = (box ≡ other) × Like a f

@@ -1,6 +1,8 @@
 -- What a woven fiber does next: the one table of that, computed from the fiber alone. It leaves open what others decide. The woven
 -- machine of kilim_fiber_spec, which reads that from lists, and a fiber that is run both follow what stands here.
 use Rattle.std.specs.Prelude.{ℕ, suc, ◌+◌, ℤ, pos, nat_lt, nat_le, Bool, true, false, not, ◌&&◌, if◌then◌else◌, List, ◌∷◌, Option, Some, None, length, []}
+use Rattle.kilim_run_state.specs.Trees.{tree_names, without}
+use Rattle.kilim_fiber_spec.specs.Acts.{Apart}
 use Rattle.std.specs.FinMap.{insert}
 use Rattle.kilim_program.specs.declared.class.Method.{Method}
 use Rattle.kilim_program.specs.declared.instr.Instr.{Instr}
@@ -31,7 +33,10 @@ use Rattle.kilim_fiber_laws.specs.woven_kin.Standing.{Standing}
 pub data Next : Type 0 where
   Goes : (after : Standing) → Next
   Puts : (box : BoxName) (root : ℕ) (shape : List Token) (after : Standing) → Next
-  PutWaits : (box : BoxName) (root : ℕ) (shape : List Token) (after : Standing) → Next
+  -- A put that waits: while it pauses, its tree leaves the heap and stands apart. And one that is made again, whose tree stands apart: `full`
+  -- has it in its heap.
+  PutWaits : (box : BoxName) (root : ℕ) (shape : List Token) (paused after : Standing) → Next
+  PutsAgain : (box : BoxName) (root : ℕ) (shape : List Token) (full paused after : Standing) → Next
   Bounds : (box : BoxName) (most : ℕ) (after : Standing) → Next
   Gets : (box : BoxName) (paused after : Standing) → Next
   Probes : (box : BoxName) (after : Standing) → Next
@@ -69,15 +74,6 @@ message_next p l box Null = Ends cause.Null
 message_next p l box (Ref n) = put_next l box n (shape_of p l.heap n)
 message_next p l box v = Stands
 
-abbrev pub put_wait_next : Standing → BoxName → ℕ → Option (List Token) → Next
-put_wait_next l box n None = Ends cause.Large
-put_wait_next l box n (Some shape) = PutWaits box n shape (counted l)
-
-abbrev pub wait_next : Program → Standing → BoxName → Value → Next
-wait_next p l box Null = Ends cause.Null
-wait_next p l box (Ref n) = put_wait_next l box n (shape_of p l.heap n)
-wait_next p l box v = Stands
-
 -- a bound is at least 1
 abbrev pub bound_next : Standing → BoxName → ℤ → Next
 bound_next l box (pos (suc n)) = Bounds box (suc n) (counted l)
@@ -102,6 +98,36 @@ paused_at box l = record l { frames = push_value Null l.frames; fiber = pausing 
 abbrev pub taken_at : Standing → Standing
 taken_at l = record (counted l) { fiber = rewound l.fiber }
 
+-- a put that waits, where its mailbox is full
+abbrev pub waiting_at : BoxName → Standing → Standing
+waiting_at box l = record l { fiber = pausing (Box box) l.fiber }
+
+-- a tree leaves the heap, and stands apart
+abbrev pub apart_at : Program → ℕ → List Token → Standing → Standing
+apart_at p n shape l = record l { heap = without l.heap (tree_names p l.heap n); aside = record { root = n; shape = shape; heap = l.heap } ∷ l.aside }
+
+abbrev pub put_wait_next : Program → Standing → BoxName → ℕ → Option (List Token) → Next
+put_wait_next p l box n None = Ends cause.Large
+put_wait_next p l box n (Some shape) = PutWaits box n shape (waiting_at box l) (taken_at l)
+
+abbrev pub wait_next : Program → Standing → BoxName → Value → Next
+wait_next p l box Null = Ends cause.Null
+wait_next p l box (Ref n) = put_wait_next p l box n (shape_of p l.heap n)
+wait_next p l box v = Stands
+
+abbrev pub first_wait : Program → Standing → Value → Value → Next
+first_wait p l (Box box) message = wait_next p l box message
+first_wait p l v message = Stands
+
+abbrev pub wait_again : Setting → Standing → Value → List Apart → Next
+wait_again set l (Box box) (kept ∷ others) =
+    spent_or set true l.done (PutsAgain box kept.root kept.shape (taken_at (record l { heap = kept.heap; aside = others })) (waiting_at box l) (taken_at (record l { aside = others })))
+wait_again set l v kept = Stands
+
+abbrev pub putw_next : Setting → Bool → Standing → Value → Value → Next
+putw_next set true l v message = wait_again set l v l.aside
+putw_next set false l v message = spent_or set true l.done (first_wait set.program l v message)
+
 -- a `yield` made again returns; one that is made counts and pauses
 abbrev pub yield_next : Bool → Standing → Next
 yield_next true l = Goes (record l { fiber = rewound l.fiber })
@@ -121,7 +147,7 @@ abbrev pub native_next : Setting → Standing → Native → List Value → Next
 native_next set l native.Execute (Ref n ∷ Fiber ∷ []) = Goes (counted l)
 native_next set l native.Start (Ref n ∷ []) = start_next l n (shape_of set.program l.heap n)
 native_next set l native.Put (Box box ∷ message ∷ []) = message_next set.program l box message
-native_next set l native.PutWait (Box box ∷ message ∷ []) = wait_next set.program l box message
+native_next set l native.PutWait (v ∷ message ∷ Fiber ∷ []) = putw_next set (is_rewinding l.fiber) l v message
 native_next set l native.Bound (Box box ∷ Int n ∷ []) = bound_next l box n
 native_next set l native.Get (v ∷ Fiber ∷ []) = spent_or set true l.done (get_next l v)
 native_next set l native.Getnb (Box box ∷ []) = Probes box (counted l)

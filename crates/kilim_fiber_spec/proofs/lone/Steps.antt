@@ -45,13 +45,13 @@ same_length (At m p l s x ∷ b) = ap suc (same_length b)
 
 module _ (set : Setting) (none : NoTables set.program) where
   abbrev N : World → Next → Thread → Type 0
-  N w n t = IsNext set w.deeds w.acts w.task n t
+  N w n t = IsNext set w.deeds w.acts w.task w.aside n t
 
   -- an end, in whatever heap
-  ends_in : (ds : List Deed) (as1 : List Act) (k : ℕ) (w : World) (l : Lone) (c : EndCause) → w.deeds ≡ ds → IsActed set ds as1 k (next.Ends c l) (ending set w Stop c)
-  ends_in ds as1 k w l c e = subst (λ (z : List Deed). IsActed set ds as1 k (next.Ends c l) (elim z [ [] ↦ Stop (Wants (action.Ends c) w) | d ∷ rest ↦ last set w Stop c rest ])) (sym e) (by ds)
+  ends_in : (ds : List Deed) (as1 : List Act) (k : ℕ) (w : World) (l : Lone) (c : EndCause) → w.deeds ≡ ds → IsActed set ds as1 k w.aside (next.Ends c l) (ending set w Stop c)
+  ends_in ds as1 k w l c e = subst (λ (z : List Deed). IsActed set ds as1 k w.aside (next.Ends c l) (elim z [ [] ↦ Stop (Wants (action.Ends c) w) | d ∷ rest ↦ last set w Stop c rest ])) (sym e) (by ds)
     where
-      by : (ds : List Deed) → IsActed set ds as1 k (next.Ends c l) (elim ds [ [] ↦ Stop (Wants (action.Ends c) w) | d ∷ rest ↦ last set w Stop c rest ])
+      by : (ds : List Deed) → IsActed set ds as1 k w.aside (next.Ends c l) (elim ds [ [] ↦ Stop (Wants (action.Ends c) w) | d ∷ rest ↦ last set w Stop c rest ])
       by [] = (w, refl, tt)
       by (d ∷ []) = (w, refl)
       by (d ∷ e ∷ rest) = refl
@@ -77,8 +77,8 @@ module _ (set : Setting) (none : NoTables set.program) where
         lasts [] = (w, refl)
         lasts (d ∷ rest) = refl
 
-        told : (d : Deed) (rest : List Deed) (act : Act) → IsDone rest w.acts w.task (fills_deed set.program box n shape after act) (put_by set w Stop go box shape n act rest)
-        told d rest (Put c k z) = (refl, refl, refl, refl)
+        told : (d : Deed) (rest : List Deed) (act : Act) → IsDone rest w.acts w.task w.aside (fills_deed set.program box n shape after act) (put_by set w Stop go box shape n act rest)
+        told d rest (Put c k z) = (refl, refl, refl, refl, refl)
         told d rest (Take c k) = refl
         told d rest (Empty c) = refl
         told d rest (Start k z) = refl
@@ -87,7 +87,7 @@ module _ (set : Setting) (none : NoTables set.program) where
         told d rest (Wait c) = refl
         told d rest (Bound c k) = refl
 
-        by : (ds : List Deed) → IsActed set ds w.acts w.task (next.Puts box n shape after) (elim ds [ [] ↦ Stop (Wants (action.Puts box n shape) w) | d ∷ rest ↦ put_by set w Stop go box shape n d.act rest ])
+        by : (ds : List Deed) → IsActed set ds w.acts w.task w.aside (next.Puts box n shape after) (elim ds [ [] ↦ Stop (Wants (action.Puts box n shape) w) | d ∷ rest ↦ put_by set w Stop go box shape n d.act rest ])
         by [] = (w, refl, (refl, refl))
         by (d ∷ rest) = told d rest d.act
 
@@ -104,8 +104,8 @@ module _ (set : Setting) (none : NoTables set.program) where
     put_waits_next box n None = ends w after cause.Large
     put_waits_next box n (Some shape) = by w.deeds
       where
-        told : (d : Deed) (rest : List Deed) (act : Act) → IsDone rest w.acts w.task (puts_deed set.program box n shape after act) (put_wait_by set w Stop go box shape n act rest)
-        told d rest (Put c k z) = (refl, refl, refl, refl)
+        told : (d : Deed) (rest : List Deed) (act : Act) → IsDone rest w.acts w.task w.aside (puts_deed set.program box n shape after act) (put_wait_by set w Stop go box shape n act rest)
+        told d rest (Put c k z) = (refl, refl, refl, refl, refl)
         told d rest (Take c k) = refl
         told d rest (Empty c) = refl
         told d rest (Start k z) = refl
@@ -114,7 +114,7 @@ module _ (set : Setting) (none : NoTables set.program) where
         told d rest (Wait c) = refl
         told d rest (Bound c k) = refl
 
-        by : (ds : List Deed) → IsActed set ds w.acts w.task (next.PutWaits box n shape after) (elim ds [ [] ↦ Stop (Wants (action.PutWaits box n shape) w) | d ∷ rest ↦ put_wait_by set w Stop go box shape n d.act rest ])
+        by : (ds : List Deed) → IsActed set ds w.acts w.task w.aside (next.PutWaits box n shape after) (elim ds [ [] ↦ Stop (Wants (action.PutWaits box n shape) w) | d ∷ rest ↦ put_wait_by set w Stop go box shape n d.act rest ])
         by [] = (w, refl, (refl, refl))
         by (d ∷ rest) = told d rest d.act
 
@@ -133,10 +133,10 @@ module _ (set : Setting) (none : NoTables set.program) where
     bounds_next : (box : BoxName) (i : ℤ) → N w (bound_next set.program after box i) (bounds set w Stop go box i)
     bounds_next box (pos (suc n)) = by w.deeds
       where
-        by : (ds : List Deed) → IsActed set ds w.acts w.task (next.Bounds box (suc n) after)
+        by : (ds : List Deed) → IsActed set ds w.acts w.task w.aside (next.Bounds box (suc n) after)
             (elim ds [ [] ↦ Stop (Wants (action.Bounds box (suc n)) w) | d ∷ rest ↦ Run m p l s x b (record (counted w) { deeds = rest; acts = Bound box (suc n) ∷ w.acts }) ])
         by [] = (w, refl, (refl, refl))
-        by (d ∷ rest) = (refl, refl, refl, refl)
+        by (d ∷ rest) = (refl, refl, refl, refl, refl)
     bounds_next box (pos zero) = no_bound
     bounds_next box (negsuc n) = no_bound
 
@@ -148,25 +148,25 @@ module _ (set : Setting) (none : NoTables set.program) where
         lasts [] = (w, refl)
         lasts (d ∷ rest) = refl
 
-        told : (d : Deed) (rest : List Deed) (act : Act) → IsDone rest w.acts w.task (starts_deed set.program n shape after act) (start_by set w Stop go shape n act rest)
+        told : (d : Deed) (rest : List Deed) (act : Act) → IsDone rest w.acts w.task w.aside (starts_deed set.program n shape after act) (start_by set w Stop go shape n act rest)
         told d rest (Put c k z) = refl
         told d rest (Take c k) = refl
         told d rest (Empty c) = refl
-        told d rest (Start k z) = (refl, refl, refl, refl)
+        told d rest (Start k z) = (refl, refl, refl, refl, refl)
         told d rest (Print z) = refl
         told d rest (End c) = lasts rest
         told d rest (Wait c) = refl
         told d rest (Bound c k) = refl
 
-        by : (ds : List Deed) → IsActed set ds w.acts w.task (next.Starts n shape after) (elim ds [ [] ↦ Stop (Wants (action.Starts n shape) w) | d ∷ rest ↦ start_by set w Stop go shape n d.act rest ])
+        by : (ds : List Deed) → IsActed set ds w.acts w.task w.aside (next.Starts n shape after) (elim ds [ [] ↦ Stop (Wants (action.Starts n shape) w) | d ∷ rest ↦ start_by set w Stop go shape n d.act rest ])
         by [] = (w, refl, (refl, refl))
         by (d ∷ rest) = told d rest d.act
 
-    came : (box : BoxName) (k : ℕ) (rest : List Deed) (o : Option (List Object)) → IsDone rest w.acts w.task (tree_came box k after o) (receives set w Stop go (Take box k) rest o)
+    came : (box : BoxName) (k : ℕ) (rest : List Deed) (o : Option (List Object)) → IsDone rest w.acts w.task w.aside (tree_came box k after o) (receives set w Stop go (Take box k) rest o)
     came box k rest None = refl
-    came box k rest (Some objects) = (refl, refl, refl, refl)
+    came box k rest (Some objects) = (refl, refl, refl, refl, refl)
 
-    taken : (box : BoxName) (d : Deed) (rest : List Deed) (act : Act) → IsDone rest w.acts w.task (takes_deed set.program box after d act) (take_by set w Stop go box d.taken act rest)
+    taken : (box : BoxName) (d : Deed) (rest : List Deed) (act : Act) → IsDone rest w.acts w.task w.aside (takes_deed set.program box after d act) (take_by set w Stop go box d.taken act rest)
     taken box d rest (Put c k z) = refl
     taken box d rest (Take c k) = came box k rest (built set.program OfMessage w.next d.taken)
     taken box d rest (Empty c) = refl
@@ -179,14 +179,14 @@ module _ (set : Setting) (none : NoTables set.program) where
     takes_next : (box : BoxName) → N w (next.Gets box after) (takes set w Stop go box)
     takes_next box = by w.deeds
       where
-        by : (ds : List Deed) → IsActed set ds w.acts w.task (next.Gets box after) (elim ds [ [] ↦ Stop (Wants (action.Gets box) w) | d ∷ rest ↦ take_by set w Stop go box d.taken d.act rest ])
+        by : (ds : List Deed) → IsActed set ds w.acts w.task w.aside (next.Gets box after) (elim ds [ [] ↦ Stop (Wants (action.Gets box) w) | d ∷ rest ↦ take_by set w Stop go box d.taken d.act rest ])
         by [] = (w, refl, (refl, refl))
         by (d ∷ rest) = taken box d rest d.act
 
-    probed : (box : BoxName) (d : Deed) (rest : List Deed) (act : Act) → IsDone rest w.acts w.task (probes_deed set.program box after d act) (probe_by set w Stop go box d.taken act rest)
+    probed : (box : BoxName) (d : Deed) (rest : List Deed) (act : Act) → IsDone rest w.acts w.task w.aside (probes_deed set.program box after d act) (probe_by set w Stop go box d.taken act rest)
     probed box d rest (Put c k z) = refl
     probed box d rest (Take c k) = taken box d rest (Take c k)
-    probed box d rest (Empty c) = (refl, refl, refl, refl)
+    probed box d rest (Empty c) = (refl, refl, refl, refl, refl)
     probed box d rest (Start k z) = refl
     probed box d rest (Print z) = refl
     probed box d rest (End c) = refl
@@ -196,7 +196,7 @@ module _ (set : Setting) (none : NoTables set.program) where
     probes_next : (box : BoxName) → N w (next.Probes box after) (probes set w Stop go box)
     probes_next box = by w.deeds
       where
-        by : (ds : List Deed) → IsActed set ds w.acts w.task (next.Probes box after) (elim ds [ [] ↦ Stop (Wants (action.Probes box) w) | d ∷ rest ↦ probe_by set w Stop go box d.taken d.act rest ])
+        by : (ds : List Deed) → IsActed set ds w.acts w.task w.aside (next.Probes box after) (elim ds [ [] ↦ Stop (Wants (action.Probes box) w) | d ∷ rest ↦ probe_by set w Stop go box d.taken d.act rest ])
         by [] = (w, refl, (refl, refl))
         by (d ∷ rest) = probed box d rest d.act
 
@@ -204,17 +204,17 @@ module _ (set : Setting) (none : NoTables set.program) where
     prints_next None = refl
     prints_next (Some token) = by w.deeds
       where
-        by : (ds : List Deed) → IsActed set ds w.acts w.task (next.Prints token after)
+        by : (ds : List Deed) → IsActed set ds w.acts w.task w.aside (next.Prints token after)
             (elim ds [ [] ↦ Stop (Wants (action.Prints token) w) | d ∷ rest ↦ Run m p l s x b (record (counted w) { deeds = rest; acts = Print (token ∷ []) ∷ w.acts }) ])
         by [] = (w, refl, (refl, refl))
-        by (d ∷ rest) = (refl, refl, refl, refl)
+        by (d ∷ rest) = (refl, refl, refl, refl, refl)
 
     args_next : (o : Option ℤ) → N w (arg_next set.program after o) (gives_arg set w Stop go o)
     args_next None = subst (λ (n : Next). N w n (ending set w Stop cause.Index)) (sym (raised_over set.program none after cause.Index)) (ends w after cause.Index)
-    args_next (Some n) = (refl, refl, refl, refl)
+    args_next (Some n) = (refl, refl, refl, refl, refl)
 
     natives_next : (n : Native) (args : List Value) → N w (native_next set after n args) (native_does set w Stop go n args)
-    natives_next native.Execute (Ref n ∷ []) = (refl, refl, refl, refl)
+    natives_next native.Execute (Ref n ∷ []) = (refl, refl, refl, refl, refl)
     natives_next native.Start (Ref n ∷ []) = starts_next n (shape_of set.program w.heap n)
     natives_next native.Put (Box box ∷ message ∷ []) = messages box message
     natives_next native.PutWait (Box box ∷ message ∷ []) = waits_next box message
@@ -222,8 +222,8 @@ module _ (set : Setting) (none : NoTables set.program) where
     natives_next native.Get (Box box ∷ []) = takes_next box
     natives_next native.Getnb (Box box ∷ []) = probes_next box
     natives_next native.Print (v ∷ []) = prints_next (printed v)
-    natives_next native.Yield [] = (refl, refl, refl, refl)
-    natives_next native.ArgCount [] = (refl, refl, refl, refl)
+    natives_next native.Yield [] = (refl, refl, refl, refl, refl)
+    natives_next native.ArgCount [] = (refl, refl, refl, refl, refl)
     natives_next native.Arg (Int i ∷ []) = args_next (arg_at set.limits.args i)
     natives_next n args = refl
 
@@ -250,6 +250,7 @@ module _ (set : Setting) (none : NoTables set.program) where
         refl,
         refl,
         refl,
+        refl,
       )
 
       by : (o : Option Method) → N w (begins_next l w.done w.boxes (begun_in set.program k n o)) (begins_in set k n w (record (counted w) { kept = None }) o)
@@ -265,13 +266,13 @@ module _ (set : Setting) (none : NoTables set.program) where
 
   effects : (e : Effect) (m : MethodId) (p : ℕ) (l s : List Value) (x : Value) (b : List Frame) (w : World)
       → N w (next_by set w.task (lone_at m p l s b w) w.done w.boxes (frame m p l s) (lone_frames b) (move_by set.program e (frame m p l s) (lone_frames b))) (effect_does set e m x b w)
-  effects (effect.Goes q l2 s2 heap) m p l s x b w = (refl, refl, refl, refl)
-  effects (effect.Makes object q l2 s2 heap) m p l s x b w = (refl, refl, refl, refl)
+  effects (effect.Goes q l2 s2 heap) m p l s x b w = (refl, refl, refl, refl, refl)
+  effects (effect.Makes object q l2 s2 heap) m p l s x b w = (refl, refl, refl, refl, refl)
   effects (effect.Opens q l2 s2 heap) m p l s x b w = by (nat_lt w.boxes box_limit)
     where
       by : (t : Bool) → N w (if t then next.Goes (went (on_heap (lone_at m p l s b w) heap) (frame m q l2 (Box (record { task = w.task; number = w.boxes }) ∷ s2) ∷ lone_frames b) w.done (w.boxes + 1)) else next.Ends cause.Boxes (ended (on_heap (lone_at m p l s b w) heap) cause.Boxes))
           (if t then Run m q l2 (Box (record { task = w.task; number = w.boxes }) ∷ s2) x b (record (counted (with_heap w heap)) { boxes = w.boxes + 1 }) else ending set (with_heap w heap) Stop cause.Boxes)
-      by true = (refl, refl, refl, refl)
+      by true = (refl, refl, refl, refl, refl)
       by false = ends (with_heap w heap) (on_heap (lone_at m p l s b w) heap) cause.Boxes
   effects (effect.Calls c args q l2 s2 heap) m p l s x b w =
       subst (λ (n : ℕ). N w (next_by set w.task (lone_at m p l s b w) w.done w.boxes (frame m p l s) (lone_frames b) (if nat_lt (suc (length (lone_frames b))) frame_limit then move.Runs (move.Enters (receiver_of set.program c args)) (entered set.program c args ∷ frame m q l2 s2 ∷ lone_frames b) heap else move.Ends cause.Depth))
@@ -280,12 +281,12 @@ module _ (set : Setting) (none : NoTables set.program) where
     where
       by : (t : Bool) → N w (next_by set w.task (lone_at m p l s b w) w.done w.boxes (frame m p l s) (lone_frames b) (if t then move.Runs (move.Enters (receiver_of set.program c args)) (entered set.program c args ∷ frame m q l2 s2 ∷ lone_frames b) heap else move.Ends cause.Depth))
           (if t then Run c 0 (entered set.program c args).locals [] (self_of set.program c args) (At m q l2 s2 x ∷ b) (counted (with_heap w heap)) else ending set (with_heap w heap) Stop cause.Depth)
-      by true = (refl, refl, refl, refl)
+      by true = (refl, refl, refl, refl, refl)
       by false = ends_in w.deeds w.acts w.task (with_heap w heap) (ended (lone_at m p l s b w) cause.Depth) cause.Depth refl
   effects (effect.Asks c args q l2 s2 heap) m p l s x b w = asked (with_heap w heap) m q l2 s2 x b (native_of set.program c) args
   effects (effect.Returns v heap) m p l s x [] w = finishes_same (with_heap w heap) m p l s [] w.kept refl
-  effects (effect.Returns None heap) m p l s x (At m2 p2 l2 s2 x2 ∷ b) w = (refl, refl, refl, refl)
-  effects (effect.Returns (Some v) heap) m p l s x (At m2 p2 l2 s2 x2 ∷ b) w = (refl, refl, refl, refl)
+  effects (effect.Returns None heap) m p l s x (At m2 p2 l2 s2 x2 ∷ b) w = (refl, refl, refl, refl, refl)
+  effects (effect.Returns (Some v) heap) m p l s x (At m2 p2 l2 s2 x2 ∷ b) w = (refl, refl, refl, refl, refl)
   effects (effect.Raises c) m p l s x b w =
       subst (λ (n : Next). N w n (ending set w Stop c)) (sym (raises_over set.program none (lone_at m p l s b w) c w.done w.boxes (frame m p l s) (lone_frames b))) (ends w (lone_at m p l s b w) c)
   effects (effect.Throws n k c) m p l s x b w =

@@ -30,14 +30,14 @@ values_setting = record { program = values; main = class_id 0; limits = record {
 
 -- ten instructions are done, in an empty heap
 abbrev pub ten_done : World
-ten_done = record { task = 0; heap = empty; next = 0; kept = None; deeds = []; acts = []; done = 10; boxes = 0 }
+ten_done = record { task = 0; heap = empty; next = 0; kept = None; deeds = []; acts = []; done = 10; boxes = 0; aside = [] }
 
 -- one that may do so many instructions, with the number 1, at its beginning: its object is a `kilim/Task`, whose `execute` is the built-in one
 abbrev pub so_many : ℕ → Setting
 so_many n = record values_setting { limits = record { steps = n; args = [] } }
 
 abbrev pub none_done : World
-none_done = record { task = 1; heap = empty; next = 1; kept = None; deeds = []; acts = []; done = 0; boxes = 0 }
+none_done = record { task = 1; heap = empty; next = 1; kept = None; deeds = []; acts = []; done = 0; boxes = 0; aside = [] }
 
 -- Task 0 right before the return of its constructor, with two instructions done and the main class `kilim/Task`: the return is the last that it
 -- may do.

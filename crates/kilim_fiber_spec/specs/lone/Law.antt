@@ -12,7 +12,7 @@ use Rattle.kilim_run_model.specs.Lone.{Lone, Next, next_move}
 use Rattle.kilim_run_model.specs.Lone as next
 use Rattle.kilim_run_model.specs.Course.{Done, done_by}
 use Rattle.kilim_run_model.specs.declared.deed.Deed.{Deed}
-use Rattle.kilim_fiber_spec.specs.Acts.{World, Action, Over, Wants, Finished, Astray, Lost}
+use Rattle.kilim_fiber_spec.specs.Acts.{World, Action, Over, Wants, Finished, Astray, Lost, Apart}
 use Rattle.kilim_fiber_spec.specs.Acts as action
 use Rattle.kilim_fiber_spec.specs.Thread.{Frame, At, Thread, Run, Stop, step}
 use Rattle.kilim_fiber_spec.specs.Fibers.{frame}
@@ -26,10 +26,10 @@ lone_frames (At m p l s x ∷ b) = frame m p l s ∷ lone_frames b
 abbrev pub lone_at : MethodId → ℕ → List Value → List Value → List Frame → World → Lone
 lone_at m p l s b w = record { heap = w.heap; next = w.next; thread = Alive (frame m p l s ∷ lone_frames b) w.done w.boxes; kept = w.kept }
 
--- the thread stands so, with these deeds to come, and these acts done
-abbrev pub IsAt : Lone → List Deed → List Act → ℕ → Thread → Type 0
-IsAt l ds as1 k (Run m p ls s x b w) = (lone_at m p ls s b w ≡ l) × (w.deeds ≡ ds) × (w.acts ≡ as1) × (w.task ≡ k)
-IsAt l ds as1 k (Stop o) = ⊥
+-- the thread stands so, with these deeds to come, these acts done, and that apart
+abbrev pub IsAt : Lone → List Deed → List Act → ℕ → List Apart → Thread → Type 0
+IsAt l ds as1 k aside (Run m p ls s x b w) = (lone_at m p ls s b w ≡ l) × (w.deeds ≡ ds) × (w.acts ≡ as1) × (w.task ≡ k) × (w.aside ≡ aside)
+IsAt l ds as1 k aside (Stop o) = ⊥
 
 -- ---- what comes next
 
@@ -63,27 +63,27 @@ abbrev pub IsLast : EndCause → List Deed → Thread → Type 0
 IsLast cause [] t = (w : World) × (t ≡ Stop (Finished cause w))
 IsLast cause (d ∷ ds) t = t ≡ Stop Astray
 
-abbrev pub IsBehind : Act → List Deed → List Act → ℕ → Lone → Thread → Type 0
-IsBehind (End cause) ds as1 k after t = IsLast cause ds t
-IsBehind act ds as1 k after t = IsAt after ds (act ∷ as1) k t
+abbrev pub IsBehind : Act → List Deed → List Act → ℕ → List Apart → Lone → Thread → Type 0
+IsBehind (End cause) ds as1 k aside after t = IsLast cause ds t
+IsBehind act ds as1 k aside after t = IsAt after ds (act ∷ as1) k aside t
 
 -- a deed leads on, or is of another kind
-abbrev pub IsDone : List Deed → List Act → ℕ → Option Done → Thread → Type 0
-IsDone ds as1 k None t = t ≡ Stop Astray
-IsDone ds as1 k (Some done) t = IsBehind done.act ds as1 k done.after t
+abbrev pub IsDone : List Deed → List Act → ℕ → List Apart → Option Done → Thread → Type 0
+IsDone ds as1 k aside None t = t ≡ Stop Astray
+IsDone ds as1 k aside (Some done) t = IsBehind done.act ds as1 k aside done.after t
 
-abbrev pub IsActed : Setting → List Deed → List Act → ℕ → Next → Thread → Type 0
-IsActed set [] as1 k n t = IsWanted (wanted n) t
-IsActed set (d ∷ ds) as1 k n t = IsDone ds as1 k (done_by set n d) t
+abbrev pub IsActed : Setting → List Deed → List Act → ℕ → List Apart → Next → Thread → Type 0
+IsActed set [] as1 k aside n t = IsWanted (wanted n) t
+IsActed set (d ∷ ds) as1 k aside n t = IsDone ds as1 k aside (done_by set n d) t
 
-abbrev pub IsNext : Setting → List Deed → List Act → ℕ → Next → Thread → Type 0
-IsNext set ds as1 k (next.Goes after) t = IsAt after ds as1 k t
-IsNext set ds as1 k next.Stands t = t ≡ Stop Lost
-IsNext set ds as1 k n t = IsActed set ds as1 k n t
+abbrev pub IsNext : Setting → List Deed → List Act → ℕ → List Apart → Next → Thread → Type 0
+IsNext set ds as1 k aside (next.Goes after) t = IsAt after ds as1 k aside t
+IsNext set ds as1 k aside next.Stands t = t ≡ Stop Lost
+IsNext set ds as1 k aside n t = IsActed set ds as1 k aside n t
 
 -- A step of the thread is what the thread on its own heap does next, with what others decide read from the next deed. No method has an
 -- exception table: what is raised or thrown ends both.
 abbrev pub ThreadIsLone : Type 0
 ThreadIsLone =
     (set : Setting) → NoTables set.program → (m : MethodId) (p : ℕ) (l s : List Value) (x : Value) (b : List Frame) (w : World) →
-    IsNext set w.deeds w.acts w.task (next_move set w.task (lone_at m p l s b w)) (step set (Run m p l s x b w))
+    IsNext set w.deeds w.acts w.task w.aside (next_move set w.task (lone_at m p l s b w)) (step set (Run m p l s x b w))

@@ -59,7 +59,7 @@ module _ (p : Program) (top : Activation) (below : List Activation) (k : Objects
   by_same (effect.Asks c (Fiber ∷ ws) place locals stack heap) d m box vs frames h2 same e = absurd (cc)
   by_same (effect.Asks c (Box b ∷ ws) place locals stack heap) d m box vs frames h2 same e = ap (λ (x : Effect). move_by p x top below) same ∙ cc
 
-moves_same : (p : Program) (top : Activation) (below : List Activation) (h k : Objects) (m : MethodId) (box : BoxName) (vs : List Value) (frames : List Activation) (h2 : Objects) →
+pub moves_same : (p : Program) (top : Activation) (below : List Activation) (h k : Objects) (m : MethodId) (box : BoxName) (vs : List Value) (frames : List Activation) (h2 : Objects) →
     moves p top below h ≡ move.Asks m (Box box ∷ vs) frames h2 → moves p top below k ≡ move.Asks m (Box box ∷ vs) frames k
 unfolding moves
 moves_same p top below h k m box vs frames h2 e = by_same p top below k (effect_of p top h) (effect_of p top k) m box vs frames h2 (effect_same h k p top).same e
@@ -73,19 +73,19 @@ record GetsAt (w : Waits) (nat : Native) (args : List Value) : Type 0 where
   of_box : args ≡ Box box ∷ behind
   stays : (set : Setting) (other : Lone) → StaysAt w (native_next set other nat args)
 
-no_put : (after : Lone) (b : BoxName) (n : ℕ) (shape : Option (List Token)) (w : Waits) → get_at (put_next after b n shape) ≡ Some w → ⊥
+pub no_put : (after : Lone) (b : BoxName) (n : ℕ) (shape : Option (List Token)) (w : Waits) → get_at (put_next after b n shape) ≡ Some w → ⊥
 no_put after b n None w e = absurd (cc)
 no_put after b n (Some shape) w e = absurd (cc)
 
-no_raise : (p : Program) (after : Lone) (why : EndCause) (w : Waits) → get_at (raised p after why) ≡ Some w → ⊥
+pub no_raise : (p : Program) (after : Lone) (why : EndCause) (w : Waits) → get_at (raised p after why) ≡ Some w → ⊥
 no_raise p after why w = raised_has (λ (x : Next). get_at x ≡ Some w → ⊥) after why (λ e. absurd (none-some _ e)) p (λ object f fs frames done boxes same e. absurd (none-some _ e))
 
-no_message : (p : Program) (after : Lone) (b : BoxName) (v : Value) (w : Waits) → get_at (message_next p after b v) ≡ Some w → ⊥
+pub no_message : (p : Program) (after : Lone) (b : BoxName) (v : Value) (w : Waits) → get_at (message_next p after b v) ≡ Some w → ⊥
 no_message p after b Null w e = no_raise p after cause.Null w e
 no_message p after b (Ref n) w e = no_put after b n (shape_of p after.heap n) w e
 no_message p after b v w e = absurd (cc)
 
-put_wait_at : (after : Lone) (b : BoxName) (n : ℕ) (shape : Option (List Token)) (w : Waits) → get_at (put_wait_next after b n shape) ≡ Some w → wait.Put b ≡ w
+pub put_wait_at : (after : Lone) (b : BoxName) (n : ℕ) (shape : Option (List Token)) (w : Waits) → get_at (put_wait_next after b n shape) ≡ Some w → wait.Put b ≡ w
 put_wait_at after b n None w e = absurd (cc)
 put_wait_at after b n (Some shape) w e = cc
 
@@ -93,19 +93,19 @@ put_wait_still : (after : Lone) (b : BoxName) (n : ℕ) (shape : Option (List To
 put_wait_still after b n None = refl
 put_wait_still after b n (Some shape) = refl
 
-no_bound : (p : Program) (after : Lone) (b : BoxName) (i : ℤ) (w : Waits) → get_at (bound_next p after b i) ≡ Some w → ⊥
+pub no_bound : (p : Program) (after : Lone) (b : BoxName) (i : ℤ) (w : Waits) → get_at (bound_next p after b i) ≡ Some w → ⊥
 no_bound p after b (pos (suc i)) w e = absurd (cc)
 no_bound p after b i w e = no_raise p after cause.Size w e
 
-no_start : (after : Lone) (n : ℕ) (shape : Option (List Token)) (w : Waits) → get_at (start_next after n shape) ≡ Some w → ⊥
+pub no_start : (after : Lone) (n : ℕ) (shape : Option (List Token)) (w : Waits) → get_at (start_next after n shape) ≡ Some w → ⊥
 no_start after n None w e = absurd (cc)
 no_start after n (Some shape) w e = absurd (cc)
 
-no_print : (after : Lone) (t : Option Token) (w : Waits) → get_at (print_next after t) ≡ Some w → ⊥
+pub no_print : (after : Lone) (t : Option Token) (w : Waits) → get_at (print_next after t) ≡ Some w → ⊥
 no_print after None w e = absurd (cc)
 no_print after (Some t) w e = absurd (cc)
 
-no_arg : (p : Program) (after : Lone) (x : Option ℤ) (w : Waits) → get_at (arg_next p after x) ≡ Some w → ⊥
+pub no_arg : (p : Program) (after : Lone) (x : Option ℤ) (w : Waits) → get_at (arg_next p after x) ≡ Some w → ⊥
 no_arg p after None w e = no_raise p after cause.Index w e
 no_arg p after (Some x) w e = absurd (cc)
 
@@ -134,16 +134,16 @@ native_gets set after native.ArgCount [] w e = absurd (cc)
 native_gets set after native.Arg (Int i ∷ []) w e = absurd (no_arg set.program after (arg_at set.limits.args i) w e)
 native_gets set after nat args w e = absurd (cc)
 
-no_begin : (l : Lone) (done boxes : ℕ) (frames : Option (List Activation)) (w : Waits) → get_at (begins_next l done boxes frames) ≡ Some w → ⊥
+pub no_begin : (l : Lone) (done boxes : ℕ) (frames : Option (List Activation)) (w : Waits) → get_at (begins_next l done boxes frames) ≡ Some w → ⊥
 no_begin l done boxes None w e = absurd (cc)
 no_begin l done boxes (Some []) w e = absurd (cc)
 no_begin l done boxes (Some (frame ∷ frames)) w e = absurd (cc)
 
-no_finish : (set : Setting) (l : Lone) (done boxes : ℕ) (kept : Option ℕ) (w : Waits) → get_at (finish_next set l done boxes kept) ≡ Some w → ⊥
+pub no_finish : (set : Setting) (l : Lone) (done boxes : ℕ) (kept : Option ℕ) (w : Waits) → get_at (finish_next set l done boxes kept) ≡ Some w → ⊥
 no_finish set l done boxes None w e = absurd (cc)
 no_finish set l done boxes (Some n) w e = no_begin l done boxes (begun_on set.program (execute_of set.program set.main) n) w e
 
-no_open : (b : Bool) (x y : Lone) (w : Waits) → get_at (cond b (Goes x) (over y cause.Boxes)) ≡ Some w → ⊥
+pub no_open : (b : Bool) (x y : Lone) (w : Waits) → get_at (cond b (Goes x) (over y cause.Boxes)) ≡ Some w → ⊥
 no_open true x y w e = absurd (cc)
 no_open false x y w e = absurd (cc)
 

@@ -31,7 +31,7 @@ use Rattle.kilim_run_machine.specs.Does.{does, is_mailbox}
 use Rattle.kilim_run_state.specs.Shapes.{field_in}
 use Rattle.kilim_run_state.specs.Objects.{new_object, first_field, first_value, first_value_of}
 use Rattle.kilim_type_spec.specs.Step.{Types, peek, is_same, replaced, one_replaced, dims_vtype, base_vtype, made_at, made_by, may_make, by_row, Makes as MakesRow, row, type_step}
-use Rattle.kilim_isolation_laws.specs.forest.Heap.{Below, Here, Then}
+use Rattle.kilim_isolation_laws.specs.forest.Heap.{Below, Here, IsForest, Then}
 use Rattle.kilim_isolation_laws.specs.forest.Relation.{Root, Named, Names, Relates, Frames}
 use Rattle.kilim_isolation_laws.proofs.forest.Paths.{some_is}
 use Rattle.kilim_isolation_laws.proofs.forest.Moves.{set_named, root_keeps, AllBelow}
@@ -97,6 +97,21 @@ module _ (p : Program) (h : Objects) (n : ℕ) (ob : Object) (free : get h n ≡
   leaf : (x : ℕ) → Below (trees p (insert h n ob)) n x → n ≡ x
   leaf x (Here e) = e
   leaf x (Then q i b e) = absurd (none_some x (sym (to_new i) ∙ ap (λ z. (trees p (insert h n ob)).to z i) (leaf q b) ∙ e))
+
+  -- the frames that wait
+  pub record WaitingGrown (ws : List Waiting) : Type 0 where
+    pub heap : HeapFits p (insert h n ob)
+    pub forest : IsForest (trees p (insert h n ob))
+    pub frames : Frames IsPlace (trees p (insert h n ob)) (map waiting_named ws)
+    pub waits : AllWait p (insert h n ob) ws
+
+  pub waiting_grown : HeapFits p h → IsForest (trees p h) → (w : Waiting) (ws : List Waiting) → Frames IsPlace (trees p h) (waiting_named w ∷ map waiting_named ws) → AllWait p h (w ∷ ws) → ObjectFits p (insert h n ob) ob → WaitingGrown (w ∷ ws)
+  waiting_grown heap forest w ws frames waits of = record {
+    heap = new_fits heap of;
+    forest = new_forest (trees p h) (trees p (insert h n ob)) forest n same_has has_not same_to;
+    frames = more_frames (trees p h) (trees p (insert h n ob)) forest (new_more (trees p h) (trees p (insert h n ob)) forest n same_has has_not same_to) (waiting_named w) (map waiting_named ws) frames;
+    waits = waits_grow p h (insert h n ob) new_grows (w ∷ ws) waits;
+  }
 
   module _ (m : Method) (f : Types) (g : Graph) (at : ℕ → Option ℕ) (ls st : List Value) (below : List Waiting) (hd : Stands p m f g at h ls st below) (of : ObjectFits p (insert h n ob) ob) where
     -- before the slot names it
@@ -243,13 +258,20 @@ zero_field_of p (k ∷ fs) f v e h = elim (is_or_not k.0 f.0) [
     differs : (a b : ℕ) → (a ≡ b → ⊥) → (a == b) ≡ false
     differs a b not_it = elim (Rattle.kilim_isolation_laws.proofs.forest.Store.both_ways (a == b)) [ inl w ↦ absurd (not_it (Rattle.kilim_isolation_laws.proofs.forest.Store.is_same a b w)) | inr w ↦ w ]
 
-zero_holds : (p : Program) (c : ClassId) (z : Bool × ℕ) → held_by (new_object p c) z ≡ None
+pub zero_holds : (p : Program) (c : ClassId) (z : Bool × ℕ) → held_by (new_object p c) z ≡ None
 zero_holds p c (true, k) = refl
 zero_holds p c (false, k) = by (field_in (new_object p c).fields (Rattle.kilim_isolation_laws.specs.graph_rows.Holds.field_id k)) refl
   where
     by : (x : Option Value) → field_in (new_object p c).fields (Rattle.kilim_isolation_laws.specs.graph_rows.Holds.field_id k) ≡ x → refers_in x ≡ None
     by None e = refl
     by (Some v) e = (zero_field_of p (object_fields p c) (Rattle.kilim_isolation_laws.specs.graph_rows.Holds.field_id k) v e Rattle.std.specs.FinMap.empty).1
+
+pub new_object_fits : (p : Program) → ((c : ClassId) (k : FieldId) (v : Value) → field_in (new_object p c).fields k ≡ Some v → MayHold (object_sort p (class_type c.0)) (field_sort p k)) → (c : ClassId) (h : Objects) (n : ℕ) →
+    ObjectFits p (insert h n (new_object p c)) (new_object p c)
+new_object_fits p may c h n = record { fields = λ k v e. ((zero_field_of p (object_fields p c) k v e (insert h n (new_object p c))).0, may c k v e); elements = λ k v e. absurd (no_element k v e) }
+  where
+    no_element : (k : ℕ) (v : Value) → slice_get [] k ≡ Some v → ⊥
+    no_element k v e = cc
 
 -- a local that was typed as the old object of this place is Top
 pub replaced_holds : (p : Program) (m : Method) (f : Types) (g : Graph) (at : ℕ → Option ℕ) (h : Objects) (ls st : List Value) (below : List Waiting) (old : VType) → Holds p m f g at h ls st below →
@@ -283,7 +305,7 @@ or_is false b e w = absurd (true≢false (sym e ∙ w))
 
 module _ (p : Program) (m : Method) (pl to : ℕ) (f f1 : Types) (g g1 : Graph) (at : ℕ → Option ℕ) (h : Objects) (ls st : List Value) (below : List Waiting) (after : Option Types) (c : ClassId)
     (s : IsStep p m pl to f f1 g g1 at h ls st below after (instr.New c)) (made : made_at m.code pl ≡ Some c)
-    (may : (k : FieldId) (v : Value) → field_in (new_object p c).fields k ≡ Some v → MayHold (object_sort p (class_type c.0)) (field_sort p k)) where
+    (may : (c : ClassId) (k : FieldId) (v : Value) → field_in (new_object p c).fields k ≡ Some v → MayHold (object_sort p (class_type c.0)) (field_sort p k)) where
   sort_is : sort p m (vtype.Uninit pl) ≡ object_sort p (class_type c.0)
   unfolding sort
   sort_is = ap (made_sort p) made
@@ -315,17 +337,11 @@ module _ (p : Program) (m : Method) (pl to : ℕ) (f f1 : Types) (g g1 : Graph) 
   back g' h' vs e w = subst (λ z. Left p m z g1 h' ls vs below) (sym passed.0) (subst (λ z. Left p m (record f { locals = replaced (vtype.Uninit pl) vtype.Top f.locals; stack = vtype.Uninit pl ∷ f.stack }) z h' ls vs below) (sym e)
       (w.0, replaced_holds p m (record f { stack = vtype.Uninit pl ∷ f.stack }) g' w.0 h' ls vs below (vtype.Uninit pl) w.1))
 
-  object_fits : (n : ℕ) → ObjectFits p (insert h n (new_object p c)) (new_object p c)
-  object_fits n = record { fields = λ k v e. ((zero_field_of p (object_fields p c) k v e (insert h n (new_object p c))).0, may k v e); elements = λ k v e. absurd (no_element k v e) }
-    where
-      no_element : (k : ℕ) (v : Value) → slice_get [] k ≡ Some v → ⊥
-      no_element k v e = cc
-
   new_left : is_mailbox p c ≡ false → (n : ℕ) → get h n ≡ None → (k : Kind) → class_kind p c ≡ k → Left p m f1 g1 (insert h n (new_object p c)) ls (Ref n ∷ st) below
   new_left no_box n free kind.Tree e = back (given kind.Tree g) (insert h n (new_object p c)) (Ref n ∷ st) (graph_is ∙ ap (λ z. given z g) e)
-      (tree_made p h n (new_object p c) free (zero_holds p c) m f g at ls st below s.0 (object_fits n) (ap is_tree_sort (kinds kind.Tree e)) f.stack g.stack st s.0.holds.slots.on_stack (vtype.Uninit pl) sort_is)
+      (tree_made p h n (new_object p c) free (zero_holds p c) m f g at ls st below s.0 (new_object_fits p may c h n) (ap is_tree_sort (kinds kind.Tree e)) f.stack g.stack st s.0.holds.slots.on_stack (vtype.Uninit pl) sort_is)
   new_left no_box n free kind.Private e = back (given kind.Private g) (insert h n (new_object p c)) (Ref n ∷ st) (graph_is ∙ ap (λ z. given z g) e)
-      (own_made p h n (new_object p c) free (zero_holds p c) m f g at ls st below s.0 (object_fits n) (kinds kind.Private e) f.stack g.stack st s.0.holds.slots.on_stack (vtype.Uninit pl) (sort_is ∙ kinds kind.Private e))
+      (own_made p h n (new_object p c) free (zero_holds p c) m f g at ls st below s.0 (new_object_fits p may c h n) (kinds kind.Private e) f.stack g.stack st s.0.holds.slots.on_stack (vtype.Uninit pl) (sort_is ∙ kinds kind.Private e))
   new_left no_box n free kind.Value e = absurd (by (class_at p c) passed.1)
     where
       string : bytes_eq (class_name p c) (codes "java/lang/String") ≡ true

@@ -134,7 +134,7 @@ rows_hold p k m pl to f f1 g g1 at h ls st below after (instr.Putfield x) hd v t
 rows_hold p k m pl to f f1 g g1 at h ls st below after (instr.Invokevirtual id) hd v typed moved here = invokevirtual_h p k m pl to f f1 g g1 at h ls st below after id (hd, typed, moved) v.classes
 rows_hold p k m pl to f f1 g g1 at h ls st below after (instr.Invokespecial id) hd v typed moved here = invokespecial_h p k m pl to f f1 g g1 at h ls st below after id (hd, typed, moved)
 rows_hold p k m pl to f f1 g g1 at h ls st below after (instr.Invokestatic id) hd v typed moved here = invokestatic_h p k m pl to f f1 g g1 at h ls st below after id (hd, typed, moved) (λ named is static other built. take_h p k m pl to f f1 g g1 at h ls st below after id (hd, typed, moved) named is static (k.takes id named is built static other))
-rows_hold p k m pl to f f1 g g1 at h ls st below after (instr.New c) hd v typed moved here = new_h p m pl to f f1 g g1 at h ls st below after c (hd, typed, moved) (made_here m.code m.code_length pl to (instr.New c) here) (k.may c)
+rows_hold p k m pl to f f1 g g1 at h ls st below after (instr.New c) hd v typed moved here = new_h p m pl to f f1 g g1 at h ls st below after c (hd, typed, moved) (made_here m.code m.code_length pl to (instr.New c) here) k.may
 rows_hold p k m pl to f f1 g g1 at h ls st below after (instr.Newarray b) hd v typed moved here = newarray_h p m pl to f f1 g g1 at h ls st below after b v.whole (hd, typed, moved)
 rows_hold p k m pl to f f1 g g1 at h ls st below after (instr.Anewarray ty) hd v typed moved here = anewarray_h p m pl to f f1 g g1 at h ls st below after ty v.whole (hd, typed, moved)
 rows_hold p k m pl to f f1 g g1 at h ls st below after instr.Arraylength hd v typed moved here = arraylength_h p m pl to f f1 g g1 at h ls st below after (hd, typed, moved)

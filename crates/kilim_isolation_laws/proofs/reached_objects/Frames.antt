@@ -3,7 +3,7 @@ use Rattle.std.proofs.Common.{◌≡◌, ◌⊎◌, inl, inr, ℕ, suc, ◌+◌,
 use Rattle.std.specs.Prelude.{slice_get}
 use Rattle.std.specs.FinMap.{get}
 use Rattle.std.proofs.lemmas.Bool.{and_parts}
-use Rattle.kilim_program.specs.declared.class.Handler.{Handler}
+use Rattle.kilim_program.specs.declared.instr.Instr.{Instr}
 use Rattle.kilim_program.specs.declared.class.Method.{Method}
 use Rattle.kilim_program.specs.declared.names.MethodId.{MethodId}
 use Rattle.kilim_program.specs.declared.ty.Kind.{Kind}
@@ -18,30 +18,33 @@ use Rattle.kilim_program.specs.Kinds.{kind_of}
 use Rattle.kilim_program.specs.Names.{method_at}
 use Rattle.kilim_program.specs.Program.{Program}
 use Rattle.kilim_run_state.specs.declared.value.Object.{Object as HeapObject}
-use Rattle.kilim_run_state.specs.Machine.{Activation, Objects}
+use Rattle.kilim_program.specs.Lengths.{fetched}
+use Rattle.kilim_run_state.specs.Machine.{Activation, Objects, stands_behind}
 use Rattle.kilim_run_model.specs.Reach.{Below, FramesName, LowerName, LiveNames, Liveness, MaybeNames, Names as NamesOne, SomeNames}
 use Rattle.kilim_type_spec.specs.Step.{Types, assignable, is_top, peek, result_types, vtype}
-use Rattle.kilim_type_spec.specs.Typed.{Catches, FlowsInto, GoesOn, Live, ReadsIt, all_assignable, declared, has_code}
+use Rattle.kilim_type_spec.specs.Typed.{Catches, FlowsInto, GoesOn, Live, ReadsIt, all_assignable, covers, declared, has_code}
 use Rattle.kilim_type_laws.specs.Laws.{typing_at}
 use Rattle.kilim_type_laws.proofs.ByPlace.{typed_by_place}
+use Rattle.kilim_type_laws.proofs.Handlers.{among_handlers}
 use Rattle.kilim_type_laws.proofs.Itself.{flows_itself}
-use Rattle.kilim_isolation_paths.specs.Paths.{Has, Reaches}
+use Rattle.kilim_type_laws.proofs.Lives.{live_is_typed}
+use Rattle.kilim_isolation_paths.specs.Paths.{Reaches}
 use Rattle.kilim_isolation_laws.specs.forest.Relation.{Frames}
 use Rattle.kilim_isolation_laws.specs.forest.Laws.{IsPlace}
 use Rattle.kilim_isolation_graph.specs.declared.graph.Graph.{Graph}
 use Rattle.kilim_isolation_graph.specs.Canonical.{canonical_at}
 use Rattle.kilim_isolation_graph.specs.Graphs.{node_of, slot}
 use Rattle.kilim_isolation_graph.specs.Nodes.{is_gone}
-use Rattle.kilim_isolation_rules.specs.Calls.{given_result}
+use Rattle.kilim_isolation_rules.specs.Calls.{given_result, handler_graph}
 use Rattle.kilim_isolation_rules.specs.Marks.{given}
 use Rattle.kilim_isolation_pauses.specs.Pausing.{frames_at}
 use Rattle.kilim_isolation.specs.Walks.{entry_graph, machine_of}
 use Rattle.kilim_type_sound.specs.Fits as fits
-use Rattle.kilim_type_sound.specs.Fits.{AValue, AreThere, Awaited, BelowFit, Classes, FrameFits, Holds, Nothing, StackFits, Wanted, has_type, have_types, result_awaited, result_of}
+use Rattle.kilim_type_sound.specs.Fits.{AValue, AreThere, Awaited, BelowFit, Classes, FrameFits, StandsAtCall, Holds, Nothing, StackFits, Wanted, has_type, have_types, result_awaited, result_of}
 use Rattle.kilim_isolation_laws.specs.reached_objects.live.Laws.{IsAcceptedBy, IsThere as LiveIsThere}
-use Rattle.kilim_isolation_laws.proofs.reached_objects.live.NoHandlers.{no_handler}
 use Rattle.kilim_isolation_laws.proofs.reached_objects.live.Gone.{result_stays}
-use Rattle.kilim_isolation_laws.proofs.reached_objects.live.Live.{live_is_there}
+use Rattle.kilim_isolation_laws.proofs.reached_objects.live.Live.{lands, live_is_there}
+use Rattle.kilim_isolation_laws.proofs.reached_objects.live.Live.{has_type as has_type_at}
 use Rattle.kilim_isolation_laws.proofs.reached_objects.live.Locals.{result_locals}
 use Rattle.kilim_isolation_laws.proofs.reached_objects.live.Nodes.{HasType, gone_at}
 use Rattle.kilim_isolation_laws.proofs.reached_objects.walk.Methods.{every_method_goes}
@@ -65,6 +68,9 @@ not_true true e = absurd (true≢false (sym e))
 not_both : (b : Bool) → (b ≡ true → ⊥) → b ≡ false
 not_both true no_true = absurd (no_true refl)
 not_both false no_true = refl
+
+same_call : (a b : ℕ × Instr) (o : Option (ℕ × Instr)) → o ≡ Some a → o ≡ Some b → a ≡ b
+same_call a b o e d = cc
 
 -- a wanted local that has a type
 slot_typed : (p : Program) (m : Method) (of : Classes) (t : VType) (o : Option Value) (v : Value) → is_top t ≡ false → o ≡ Some v → Holds p m of t o → has_type p m of t v ≡ true
@@ -166,13 +172,51 @@ module _ (p : Program) (wanted : Wanted) (live : Liveness) (of : Classes) (h : O
   gone_later : (gets : Option Ty) (g : Graph) (x : ℕ) → x < length g.nodes → is_gone (node_of (given_result p gets g) x).standing ≡ false → is_gone (node_of g x).standing ≡ false
   gone_later gets g x lt lives = not_both (is_gone (node_of g x).standing) (λ gone. true≢false (sym ((result_stays p gets g).gone x lt gone) ∙ lives))
 
-  -- no method has an exception table
-  behind : (m : Method) (at k : ℕ) → ((hd : Handler) → Has m.handlers hd → ⊥) → Live m k at ⊎ IsLiveAtHandler m k at → Live m k at
-  behind m at k none (inl l) = l
-  behind m at k none (inr l) = absurd (none l.1 l.3)
+  -- what is live at a handler of the call: it is there before the call, and not gone where the call raises
+  caught_there : (a : Activation) (w : Waiting) (gets gives : Option Ty) → Waits p (typing_at p) listed a w gets gives → WaitFits p h w → StandsAtCall p (typing_at p) wanted of a → (j n : ℕ) → IsLiveAtHandler w.method j a.place → slice_get a.locals j ≡ Some (Ref n) → IsThere h n
+  caught_there a w gets gives ws fits st j n (call, hd, behind, has, covering, lives) e =
+      let id = a.method in
+      let m = w.method in
+      let method : st.method ≡ m = same_method st.method m (method_at p id) st.there ws.is in
+      let one : ws.call ≡ call = same_call ws.call call (stands_behind m.code m.code_length a.place) ws.stands behind in
+      let other : st.call ≡ call = same_call st.call call (stands_behind m.code m.code_length a.place) (ap (λ (z : Method). stands_behind z.code z.code_length a.place) (sym method) ∙ st.behind) behind in
+      let here : fetched m.code m.code_length call.0 ≡ Some (call.1, a.place) =
+      subst (λ (z : ℕ × Instr). fetched m.code m.code_length z.0 ≡ Some (z.1, a.place)) other (ap (λ (z : Method). fetched z.code z.code_length st.call.0) (sym method) ∙ st.here) in
+      let live_call : Live m j call.0 = Catches call.0 a.place hd.at call.1 here (among_handlers m.handlers call.0 has.0 hd has.1 covering) lives in
+      let t = peek (typing_at p id call.0).locals j in
+      let typed_call : is_top t ≡ false = live_is_typed p checked.keeps m (typing_at p id) (accepted_by id m ws.is ws.coded).well j call.0 live_call in
+      let holds : Holds p m of t (slice_get a.locals j) =
+      subst (λ (z : Method). Holds p z of t (slice_get a.locals j)) method
+      (subst (λ (z : ℕ × Instr). Holds p st.method of (peek (typing_at p id z.0).locals j) (slice_get a.locals j)) other (st.locals.slots j (subst (λ (z : ℕ × Instr). wanted id z.0 j ≡ true) (sym other) (wanted_live id m ws.is j call.0 live_call)))) in
+      let typed : has_type p m of t (Ref n) ≡ true = slot_typed p m of t (slice_get a.locals j) (Ref n) typed_call e holds in
+      let sorts : sort p m (peek w.types.locals j) ≡ sort p m t = ws.sorts j ∙ ap (λ (z : ℕ × Instr). sort p m (peek (typing_at p id z.0).locals j)) one in
+      let handled = ws.handled hd has (ap (λ (z : ℕ × Instr). covers hd z.0) one ∙ covering) in
+      let there = live_in id m ws.first ws.is ws.coded ws.begins hd.at (canonical_at (declared m hd.at) (handler_graph w.graph)) handled.reaches j lives in
+      let a1 = accepted_by id m ws.is ws.coded in
+      let known = has_type_at p id m (typing_at p id) (listed id) a1 hd.at j (declared m hd.at) (lands p id m (typing_at p id) (listed id) a1 call.0 a.place call.1 here hd has covering).place refl there.typed in
+      slot_there p h (named_by w.graph w.at) (length w.graph.nodes) (sort p m (peek w.types.locals j)) (slot w.graph.locals j) n (λ unknown. sort_known p m of t t n ((flows_itself p checked.keeps (typing_at p id call.0)).locals j) typed (sym sorts ∙ unknown))
+      (λ x named lt. not_both (is_gone (node_of w.graph x).standing) (λ gone.
+      let later = gone_at (declared m hd.at) (handler_graph w.graph) j x known named gone in
+      true≢false (sym later.2 ∙ there.lives later.0 later.1)))
+      (subst (SlotFits p h (named_by w.graph w.at) (length w.graph.nodes) (sort p m (peek w.types.locals j)) (slot w.graph.locals j)) (ap (λ (ls : List Value). value_at ls j) ws.locals ∙ value_get a.locals j (Ref n) e) (fits.slots.in_locals j))
 
-  waiting_there : (a : Activation) (w : Waiting) (gets gives : Option Ty) → Waits p (typing_at p) listed a w gets gives → WaitFits p h w → FrameFits p (typing_at p) wanted of (result_awaited gets) a → (n : ℕ) → LowerNames a n → IsThere h n
-  waiting_there a w gets gives ws fits fit n (inl names) =
+  -- what is live behind the call
+  behind_there : (a : Activation) (w : Waiting) (gets gives : Option Ty) → Waits p (typing_at p) listed a w gets gives → WaitFits p h w → FrameFits p (typing_at p) wanted of (result_awaited gets) a → (j n : ℕ) → Live w.method j a.place → slice_get a.locals j ≡ Some (Ref n) → IsThere h n
+  behind_there a w gets gives ws fits fit j n lives named =
+      let f = typing_at p a.method a.place in
+      let g = given_result p gets w.graph in
+      let there = live_in a.method w.method ws.first ws.is ws.coded ws.begins a.place (canonical_at (declared w.method a.place) g) ws.reaches j lives in
+      let typed = local_typed a (result_awaited gets) w.method ws.is fit j n lives there.typed named in
+      let flows = becomes_flows (record w.types { stack = result_types gets ++ w.types.stack }) f (declared w.method a.place) ws.types in
+      let has = becomes_typed (record w.types { stack = result_types gets ++ w.types.stack }) f (declared w.method a.place) j ws.types there.typed in
+      slot_there p h (named_by w.graph w.at) (length w.graph.nodes) (sort p w.method (peek w.types.locals j)) (slot w.graph.locals j) n (sort_known p w.method of (peek w.types.locals j) (peek f.locals j) n (flows.locals j) typed)
+      (λ x e lt. gone_later gets w.graph x lt (not_both (is_gone (node_of g x).standing) (λ gone.
+      let later = gone_at (declared w.method a.place) g j x has (ap (λ (ls : List (Option ℕ)). slot ls j) (result_locals p gets w.graph) ∙ e) gone in
+      true≢false (sym later.2 ∙ there.lives later.0 later.1))))
+      (subst (SlotFits p h (named_by w.graph w.at) (length w.graph.nodes) (sort p w.method (peek w.types.locals j)) (slot w.graph.locals j)) (ap (λ (ls : List Value). value_at ls j) ws.locals ∙ value_get a.locals j (Ref n) named) (fits.slots.in_locals j))
+
+  waiting_there : (a : Activation) (w : Waiting) (gets gives : Option Ty) → Waits p (typing_at p) listed a w gets gives → WaitFits p h w → FrameFits p (typing_at p) wanted of (result_awaited gets) a → StandsAtCall p (typing_at p) wanted of a → (n : ℕ) → LowerNames a n → IsThere h n
+  waiting_there a w gets gives ws fits fit st n (inl names) =
       let f = typing_at p a.method a.place in
       let same = same_method fit.method w.method (method_at p a.method) fit.there ws.is in
       let flows = becomes_flows (record w.types { stack = result_types gets ++ w.types.stack }) f (declared w.method a.place) ws.types in
@@ -180,28 +224,20 @@ module _ (p : Program) (wanted : Wanted) (live : Liveness) (of : Classes) (h : O
       let none = not_true _ ws.live in
       stack_there p w.method of h (named_by w.graph w.at) (length w.graph.nodes) w.types.stack rest.us w.graph.stack w.stack fits.slots.on_stack rest.flows (subst (λ (vs : List Value). have_types p w.method of rest.us vs ≡ true) (sym ws.stack) rest.typed)
       (λ k x e lt. let j = later_item p gets w.graph k in gone_later gets w.graph x lt (free_items (given_result p gets w.graph) (given_result p gets w.graph).stack none j.0 x (j.1 ∙ e))) n (subst (λ (vs : List Value). SomeNames vs n) (sym ws.stack) names)
-  waiting_there a w gets gives ws fits fit n (inr names) =
-      let f = typing_at p a.method a.place in
-      let g = given_result p gets w.graph in
+  waiting_there a w gets gives ws fits fit st n (inr names) =
       let l = live_at (live.below a.method a.place) 0 a.locals n names in
       let number : 0 + l.0 ≡ l.0 = omega arith in
-      let lives = behind w.method a.place l.0 (λ hd has. no_handler p checked.keeps a.method w.method ws.is hd has) (alive.1 a.method w.method a.place l.0 ws.is (subst (λ (k : ℕ). live.below a.method a.place k ≡ true) number l.1)) in
-      let there = live_in a.method w.method ws.first ws.is ws.coded ws.begins a.place (canonical_at (declared w.method a.place) g) ws.reaches l.0 lives in
-      let typed = local_typed a (result_awaited gets) w.method ws.is fit l.0 n lives there.typed l.2 in
-      let flows = becomes_flows (record w.types { stack = result_types gets ++ w.types.stack }) f (declared w.method a.place) ws.types in
-      let has = becomes_typed (record w.types { stack = result_types gets ++ w.types.stack }) f (declared w.method a.place) l.0 ws.types there.typed in
-      slot_there p h (named_by w.graph w.at) (length w.graph.nodes) (sort p w.method (peek w.types.locals l.0)) (slot w.graph.locals l.0) n (sort_known p w.method of (peek w.types.locals l.0) (peek f.locals l.0) n (flows.locals l.0) typed)
-      (λ x e lt. gone_later gets w.graph x lt (not_both (is_gone (node_of g x).standing) (λ gone.
-      let later = gone_at (declared w.method a.place) g l.0 x has (ap (λ (ls : List (Option ℕ)). slot ls l.0) (result_locals p gets w.graph) ∙ e) gone in
-      true≢false (sym later.2 ∙ there.lives later.0 later.1))))
-      (subst (SlotFits p h (named_by w.graph w.at) (length w.graph.nodes) (sort p w.method (peek w.types.locals l.0)) (slot w.graph.locals l.0)) (ap (λ (ls : List Value). value_at ls l.0) ws.locals ∙ value_get a.locals l.0 (Ref n) l.2) (fits.slots.in_locals l.0))
+      elim (alive.1 a.method w.method a.place l.0 ws.is (subst (λ (k : ℕ). live.below a.method a.place k ≡ true) number l.1)) [
+        | inl lives ↦ behind_there a w gets gives ws fits fit l.0 n lives l.2
+        | inr lives ↦ caught_there a w gets gives ws fits st l.0 n lives l.2
+      ]
 
   -- ---- all frames
 
   below_name : (kept : Option ℕ) (frames : List Activation) (ws : List Waiting) (gets fits : Option Ty) → fits ≡ gets → AllWaitFor p (typing_at p) listed kept frames ws gets → AllWait p h ws → BelowFit p (typing_at p) wanted of fits frames → (n : ℕ) → LowerName live frames n → IsThere h n
   below_name kept [] ws gets fits same waits all fit n names = absurd names
   below_name kept (a ∷ rest) [] gets fits same waits all fit n names = absurd waits
-  below_name kept (a ∷ rest) (w ∷ ws) gets fits same waits all fit n names = by names (λ s. below_name kept rest ws waits.0 (result_of (method_at p a.method)) next waits.2 all.1 fit.1 n s)
+  below_name kept (a ∷ rest) (w ∷ ws) gets fits same waits all fit n names = by names (λ s. below_name kept rest ws waits.0 (result_of (method_at p a.method)) next waits.2 all.1 fit.2 n s)
     where
       here : FrameFits p (typing_at p) wanted of (result_awaited gets) a
       here = subst (λ (r : Option Ty). FrameFits p (typing_at p) wanted of (result_awaited r) a) same fit.0
@@ -210,8 +246,8 @@ module _ (p : Program) (wanted : Wanted) (live : Liveness) (of : Classes) (h : O
       next = ap result_of waits.1.is ∙ waits.1.result
 
       by : SomeNames a.stack n ⊎ (LiveNames (live.below a.method a.place) 0 a.locals n ⊎ LowerName live rest n) → (LowerName live rest n → IsThere h n) → IsThere h n
-      by (inl s) later = waiting_there a w gets waits.0 waits.1 all.0 here n (inl s)
-      by (inr (inl s)) later = waiting_there a w gets waits.0 waits.1 all.0 here n (inr s)
+      by (inl s) later = waiting_there a w gets waits.0 waits.1 all.0 here fit.1 n (inl s)
+      by (inr (inl s)) later = waiting_there a w gets waits.0 waits.1 all.0 here fit.1 n (inr s)
       by (inr (inr s)) later = later s
 
   tree_there : (o : ℕ) → (trees p h).has o ≡ true → IsThere h o

@@ -1,6 +1,5 @@
 pub mod Places
 pub mod Typing
-pub mod Behind
 pub mod FromSteps
 pub mod Raising
 pub mod Given

@@ -4,5 +4,4 @@ pub mod Locals
 pub mod Along
 pub mod Entry
 pub mod Places
-pub mod NoHandlers
 pub mod Live

@@ -19,6 +19,7 @@ use Rattle.kilim_type_spec.specs.Step.{superclass_at, vtype}
 use Rattle.kilim_type_sound.specs.Facts.{IsCharAt, IsEquals, IsLength, TextKind}
 use Rattle.kilim_type_laws.proofs.members.ValueClasses.{found_name}
 use Rattle.kilim_type_sound.proofs.Grounds.{facts_hold}
+use Rattle.kilim_type_sound.proofs.Tables.{no_table}
 use Rattle.kilim_isolation_laws.specs.graph_rows.Holds.{object_sort}
 use Rattle.kilim_isolation_laws.specs.graph_rows.Facts.{ProgramKeeps}
 use Rattle.kilim_isolation_laws.proofs.sorts.Choosing.{chooses_well, class_sort, of_object, sizes}
@@ -58,4 +59,5 @@ module _ (p : Program) (keeps : Keeps p) where
     constants = facts.constants;
     above = above;
     constructors = facts.constructors;
+    thrown = λ table c throwable. absurd (no_table p keeps table);
   }

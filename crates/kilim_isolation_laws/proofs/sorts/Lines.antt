@@ -1,9 +1,10 @@
 -- The classes in a line of superclasses are of one kind, but for `java/lang/Object`.
 use Rattle.std.proofs.Common.{◌≡◌, ◌⊎◌, inl, inr, ℕ, zero, suc, ◌+◌, ◌-◌, ◌<◌, ◌≤◌, Bool, true, false, true≢false, cond, eqb, List, [], ◌∷◌, ◌++◌, length, Option, Some, None, refl, sym, ap, subst, ◌∙◌, arith}
-use Rattle.std.specs.Prelude.{◌&&◌, ◌||◌, not, slice_get, codes}
+use Rattle.std.specs.Prelude.{◌&&◌, ◌||◌, not, nat_le, nat_lt, slice_get, codes}
 use Rattle.std.specs.List.{list_any, list_all, AllByRecursion}
 use Rattle.std.specs.Str.{bytes_eq}
-use Rattle.std.proofs.lemmas.Bool.{and_parts, eqb-true, ltb-true}
+use Rattle.std.proofs.lemmas.Bool.{and_parts, eqb-true, leb-true, ltb-true, not-true, or_from, or_parts}
+use Rattle.std.proofs.lemmas.Option.{none-some}
 use Rattle.kilim_program.specs.declared.class.Class.{Class}
 use Rattle.kilim_program.specs.declared.class.Form.TheVariants.{Plain, Woven}
 use Rattle.kilim_program.specs.declared.class.Form.{Form}
@@ -11,7 +12,8 @@ use Rattle.kilim_program.specs.declared.names.ClassId.{ClassId}
 use Rattle.kilim_program.specs.declared.ty.Kind.{Kind}
 use Rattle.kilim_program.specs.declared.ty.Kind.TheVariants as kind
 use Rattle.kilim_program.specs.Program.{Program}
-use Rattle.kilim_program.specs.BuiltIn.{built_in_classes_in, class_id}
+use Rattle.kilim_program.specs.BuiltIn.{built_in_classes_in, class_id, is_exception}
+use Rattle.kilim_program.proofs.BuiltIns.{exception_name}
 use Rattle.kilim_program.specs.Kinds.{class_kind, is_marked, is_message, is_private_kind, is_value_class}
 use Rattle.kilim_program.specs.Names.{◌>>=◌, class_at, class_name, is_named_task, is_task, line_up_to}
 use Rattle.kilim_program.specs.Keeps.{Keeps, is_object, is_open_superclass, own_class_fits, own_count, superclass_fits, superclasses_fit}
@@ -19,7 +21,8 @@ use Rattle.kilim_lemmas.proofs.Lists.{get_right, get_some}
 use Rattle.kilim_lemmas.proofs.Texts.{text_is}
 use Rattle.kilim_type_laws.proofs.members.FromKeeps.{all_at}
 use Rattle.kilim_type_laws.proofs.members.Through.{each_at, object_at, object_top}
-use Rattle.kilim_type_laws.proofs.members.ValueClasses.{IsPlain, UpIs, all_of_at, apart, built_plain, own_counted, own_fits}
+use Rattle.kilim_type_laws.specs.members.Chosen.{is_value_name}
+use Rattle.kilim_type_laws.proofs.members.ValueClasses.{IsPlain, UpIs, all_of_at, apart, built_plain, is_late, late_is_no_value, own_counted, own_fits}
 
 abbrev pub up : Program → ClassId → Option ClassId
 up p c = class_at p c >>= λ (class : Class). class.superclass
@@ -43,6 +46,31 @@ has_value : (form : Form) (a b : ℕ) → (list_any (λ c. bytes_eq c.name (code
     × (list_any (λ c. bytes_eq c.name (codes "kilim/Task")) (built_in_classes_in form a b) ≡ true)
 has_value Plain a b = (refl, refl, refl)
 has_value Woven a b = (refl, refl, refl)
+
+-- a class below a class of exceptions is no message, and none of values or of tasks
+abbrev UpIsLate : ℕ → Option ClassId → Type 0
+UpIsLate first None = ⊥
+UpIsLate first (Some up) = (k : ℕ) × (up.0 ≡ first + k) × (is_late k ≡ true)
+
+abbrev IsPlainBelow : ℕ → Class → Type 0
+IsPlainBelow first class = UpIsLate first class.superclass → (is_value_class class.name ≡ false) × (bytes_eq class.name (codes "kilim/Task") ≡ false) × (class.message ≡ false)
+
+not_late : {A : Type 0} (first : ℕ) → (k : ℕ) × (first ≡ first + k) × (is_late k ≡ true) → A
+not_late first w =
+    let seven = leb-true 7 w.0 (and_parts (nat_le 7 w.0) (nat_lt w.0 18) w.2).0 in
+    let number = w.1 in
+    absurd (omega (arith, number, seven))
+
+built_below : (form : Form) (first method : ℕ) → AllByRecursion (IsPlainBelow first) (built_in_classes_in form first method)
+built_below Plain first method = ((λ w. absurd w), ((λ w. not_late first w), ((λ w. not_late first w), ((λ w. not_late first w), ((λ w. not_late first w), ((λ w. not_late first w), ((λ w. not_late first w), ((λ w. not_late first w), ((λ w. (refl, refl, refl)), ((λ w. (refl, refl, refl)), ((λ w. (refl, refl, refl)), ((λ w. (refl, refl, refl)), ((λ w. (refl, refl, refl)), ((λ w. (refl, refl, refl)), ((λ w. (refl, refl, refl)), ((λ w. (refl, refl, refl)), ((λ w. (refl, refl, refl)), ((λ w. (refl, refl, refl)), tt))))))))))))))))))
+built_below Woven first method = ((λ w. absurd w), ((λ w. not_late first w), ((λ w. not_late first w), ((λ w. not_late first w), ((λ w. not_late first w), ((λ w. not_late first w), ((λ w. not_late first w), ((λ w. not_late first w), ((λ w. (refl, refl, refl)), ((λ w. (refl, refl, refl)), ((λ w. (refl, refl, refl)), ((λ w. (refl, refl, refl)), ((λ w. (refl, refl, refl)), ((λ w. (refl, refl, refl)), ((λ w. (refl, refl, refl)), ((λ w. (refl, refl, refl)), ((λ w. (refl, refl, refl)), ((λ w. (refl, refl, refl)), ((λ w. not_late first w), tt)))))))))))))))))))
+
+of_no_name : (name : List ℕ) → is_value_name name ≡ false → is_value_class name ≡ false
+of_no_name name e =
+    let string = bytes_eq name (codes "java/lang/String") in
+    let mailbox = bytes_eq name (codes "kilim/Mailbox") in
+    let parts = or_parts string (mailbox || bytes_eq name (codes "kilim/Fiber")) e in
+    or_from string mailbox parts.0 (or_parts mailbox (bytes_eq name (codes "kilim/Fiber")) parts.1).0
 
 by_kind : (v t m : Bool) → v ≡ false → (t ≡ true) ⊎ (m ≡ true) → cond v kind.Value (cond (t || m) kind.Tree kind.Private) ≡ kind.Tree
 by_kind true t m e w = absurd (cc)
@@ -198,6 +226,22 @@ module _ (p : Program) (keeps : Keeps p) where
           go true o w = inr o
           go false o w = inl (message_kind u w ∙ sym (message_kind c m))
 
+      -- neither it nor its superclass is a class of values
+      of_no_value : is_value_class (class_name p u) ≡ false → is_value_class (class_name p c) ≡ false → is_named_task p c ≡ false → is_message p c ≡ false → (not (is_private_kind (class_kind p c)) || is_private_kind (class_kind p u)) ≡ true → (class_kind p u ≡ class_kind p c) ⊎ (is_object p u ≡ true)
+      of_no_value none own_none no_task m w = go (is_task p c) refl
+        where
+          private_is : (k : Kind) → is_private_kind k ≡ true → k ≡ kind.Private
+          private_is kind.Private e = refl
+          private_is kind.Tree e = absurd (true≢false (sym e))
+          private_is kind.Value e = absurd (true≢false (sym e))
+
+          go : (z : Bool) → is_task p c ≡ z → (class_kind p u ≡ class_kind p c) ⊎ (is_object p u ≡ true)
+          go true t = inl (by_kind (is_value_class (class_name p u)) (is_task p u) (is_message p u) none (inl (task_above c u e no_task t)) ∙ sym (by_kind (is_value_class (class_name p c)) (is_task p c) (is_message p c) own_none (inl t)))
+          go false t =
+              let private : class_kind p c ≡ kind.Private = by_none (is_value_class (class_name p c)) (is_task p c) (is_message p c) own_none t m in
+              let w2 : (not (is_private_kind kind.Private) || is_private_kind (class_kind p u)) ≡ true = subst (λ (k : Kind). (not (is_private_kind k) || is_private_kind (class_kind p u)) ≡ true) private w in
+              inl (private_is (class_kind p u) w2 ∙ sym private)
+
       -- another class of the files
       of_own : (class : Class) → class_at p c ≡ Some class → IsOwn c class → is_message p c ≡ false → class.superclass ≡ Some u → (not (is_private_kind (class_kind p c)) || is_private_kind (class_kind p u)) ≡ true → (class_kind p u ≡ class_kind p c) ⊎ (is_object p u ≡ true)
       of_own class at own_class m is w = open_is (open_superclass (and_parts (not (bytes_eq class.name (codes "kilim/Fiber"))) (is_open_superclass p class.superclass) (all_at (own_class_fits p) own c.0 class (own_fits p keeps) own_class.at)).1)
@@ -205,29 +249,16 @@ module _ (p : Program) (keeps : Keeps p) where
           open_superclass : is_open_superclass p class.superclass ≡ true → is_open_superclass p (Some u) ≡ true
           open_superclass o = subst (λ (o : Option ClassId). is_open_superclass p o ≡ true) is o
 
-          -- it is no class of values
           further : is_value_class (class_name p u) ≡ false → (class_kind p u ≡ class_kind p c) ⊎ (is_object p u ≡ true)
-          further none = go (is_task p c) refl
-            where
-              private_is : (k : Kind) → is_private_kind k ≡ true → k ≡ kind.Private
-              private_is kind.Private e = refl
-              private_is kind.Tree e = absurd (true≢false (sym e))
-              private_is kind.Value e = absurd (true≢false (sym e))
-
-              go : (z : Bool) → is_task p c ≡ z → (class_kind p u ≡ class_kind p c) ⊎ (is_object p u ≡ true)
-              go true t = inl (by_kind (is_value_class (class_name p u)) (is_task p u) (is_message p u) none (inl (task_above c u e (own_is_no_task c class at own_class) t)) ∙ sym (by_kind (is_value_class (class_name p c)) (is_task p c) (is_message p c) (own_is_no_value c class at own_class) (inl t)))
-              go false t =
-                  let private : class_kind p c ≡ kind.Private = by_none (is_value_class (class_name p c)) (is_task p c) (is_message p c) (own_is_no_value c class at own_class) t m in
-                  let w2 : (not (is_private_kind kind.Private) || is_private_kind (class_kind p u)) ≡ true = subst (λ (k : Kind). (not (is_private_kind k) || is_private_kind (class_kind p u)) ≡ true) private w in
-                  inl (private_is (class_kind p u) w2 ∙ sym private)
+          further none = of_no_value none (own_is_no_value c class at own_class) (own_is_no_task c class at own_class) m w
 
           open_is : is_open_superclass p (Some u) ≡ true → (class_kind p u ≡ class_kind p c) ⊎ (is_object p u ≡ true)
           open_is o = go (Rattle.std.specs.Prelude.nat_lt u.0 (own_count p)) (is_object p u) (is_named_task p u) refl refl refl o
             where
-              go : (a b t : Bool) → Rattle.std.specs.Prelude.nat_lt u.0 (own_count p) ≡ a → is_object p u ≡ b → is_named_task p u ≡ t → (a || (b || t)) ≡ true → (class_kind p u ≡ class_kind p c) ⊎ (is_object p u ≡ true)
+              go : (a b t : Bool) → Rattle.std.specs.Prelude.nat_lt u.0 (own_count p) ≡ a → is_object p u ≡ b → is_named_task p u ≡ t → (a || (b || (t || is_exception (class_name p u)))) ≡ true → (class_kind p u ≡ class_kind p c) ⊎ (is_object p u ≡ true)
               go a true t ea eb et w = inr eb
               go false false true ea eb et w = further (ap is_value_class (text_is (class_name p u) (codes "kilim/Task") et))
-              go false false false ea eb et w = absurd (true≢false (sym w))
+              go false false false ea eb et w = further (not-true _ (exception_name (λ (name : List ℕ). not (is_value_class name)) (class_name p u) refl refl w))
               go true false t ea eb et w =
                   let less : u.0 < length own = subst (λ (n : ℕ). u.0 < n) (own_counted p keeps) (ltb-true u.0 (own_count p) ea) in
                   let s = get_some own u.0 less in
@@ -235,18 +266,25 @@ module _ (p : Program) (keeps : Keeps p) where
                   further (own_is_no_value u s.0 there (record { at = s.1 }))
 
       -- a built-in class
-      of_built : (class : Class) → IsBuilt c class → class.superclass ≡ Some u → is_object p u ≡ true
-      of_built class b is =
-          let plain = all_of_at (IsPlain (length own)) built (built_plain p.form (length own) methods) b.place class b.at in
-          let first : u.0 ≡ length own = subst (UpIs (length own)) is plain.1 in
-          subst (λ (k : ℕ). is_object p (class_id k) ≡ true) (sym first) first_is_object
+      of_built : (class : Class) → class_at p c ≡ Some class → IsBuilt c class → class.superclass ≡ Some u → (class_kind p u ≡ class_kind p c) ⊎ (is_object p u ≡ true)
+      of_built class at b is = go (subst (UpIs (length own)) is (all_of_at (IsPlain (length own)) built (built_plain p.form (length own) methods) b.place class b.at).1)
+        where
+          go : ((u.0 ≡ length own) ⊎ ((k : ℕ) × (u.0 ≡ length own + k) × (is_late k ≡ true))) → (class_kind p u ≡ class_kind p c) ⊎ (is_object p u ≡ true)
+          go (inl first) = inr (subst (λ (k : ℕ). is_object p (class_id k) ≡ true) (sym first) first_is_object)
+          go (inr late) =
+              let plain = all_of_at (IsPlainBelow (length own)) built (built_below p.form (length own) methods) b.place class b.at (subst (UpIsLate (length own)) (sym is) late) in
+              let none : is_value_class (class_name p u) ≡ false =
+              ap (λ (k : ℕ). is_value_class (class_name p (class_id k))) late.1 ∙ of_no_name (class_name p (class_id (length own + late.0))) (late_is_no_value p keeps late.0 late.2) in
+              let m : is_message p c ≡ false = ap is_marked at ∙ plain.2 in
+              of_no_value none (ap is_value_class (name_is c class at) ∙ plain.0) (ap (λ (n : List ℕ). bytes_eq n (codes "kilim/Task")) (name_is c class at) ∙ plain.1) m
+              (subst (λ (z : Bool). cond z (is_object p u || is_message p u) (not (is_private_kind (class_kind p c)) || is_private_kind (class_kind p u)) ≡ true) m (fits class at is))
 
       by : (o : Option Class) → class_at p c ≡ o → (o >>= λ (class : Class). class.superclass) ≡ Some u → (class_kind p u ≡ class_kind p c) ⊎ (is_object p u ≡ true)
       by None at is = absurd (cc)
       by (Some class) at is = go (which c class at)
         where
           go : IsOwn c class ⊎ IsBuilt c class → (class_kind p u ≡ class_kind p c) ⊎ (is_object p u ≡ true)
-          go (inr b) = inr (of_built class b is)
+          go (inr b) = of_built class at b is
           go (inl o) = mark (is_message p c) refl (fits class at is)
             where
               mark : (z : Bool) → is_message p c ≡ z → cond z (is_object p u || is_message p u) (not (is_private_kind (class_kind p c)) || is_private_kind (class_kind p u)) ≡ true → (class_kind p u ≡ class_kind p c) ⊎ (is_object p u ≡ true)

@@ -1,7 +1,7 @@
 -- What a thread whose frames stand gives away is a tree.
 use Rattle.std.proofs.Common.{◌≡◌, inl, inr, ℕ, ◌+◌, Bool, true, false, cond, List, [], ◌∷◌, ◌++◌, map, Option, Some, None, refl, sym, ap, subst, ◌∙◌}
-use Rattle.std.specs.Prelude.{◌||◌}
-use Rattle.std.proofs.lemmas.Bool.{and_parts}
+use Rattle.std.specs.Prelude.{◌||◌, ◌&&◌}
+use Rattle.std.proofs.lemmas.Bool.{and_parts, false≢true}
 use Rattle.kilim_program.specs.declared.class.Method.{Method}
 use Rattle.kilim_program.specs.declared.names.ClassId.{ClassId}
 use Rattle.kilim_program.specs.declared.names.MethodId.{MethodId}
@@ -11,7 +11,7 @@ use Rattle.kilim_program.specs.declared.ty.Qualifier.{Qualifier}
 use Rattle.kilim_program.specs.declared.ty.Qualifier.TheVariants as qualifier
 use Rattle.kilim_program.specs.declared.ty.Ty.{Ty}
 use Rattle.kilim_program.specs.declared.value.Value.{Value}
-use Rattle.kilim_program.specs.declared.value.Value.TheVariants.{Ref, Box}
+use Rattle.kilim_program.specs.declared.value.Value.TheVariants.{Ref, Box, Fiber}
 use Rattle.kilim_program.specs.declared.names.BoxName.{BoxName}
 use Rattle.kilim_program.specs.declared.verified.VType.{VType}
 use Rattle.kilim_program.specs.BuiltIn.{class_id, class_type}
@@ -120,6 +120,15 @@ module _ (set : Setting) (wanted : Wanted) (listed : Listed) (of : Classes) (is 
             ∙ ap (λ (as1 : List Qualifier). record { ty = class_type typed.callee.owner.0; qualifier = typed.callee.receiver } ∷ declared_parameters (class_type (n + 2) ∷ []) as1) put.qualifiers)))
             (inr (mailbox_is_no_tree put.owner, inl (ap (λ (k : Kind). cond (is_tree_kind k) (Some qualifier.Free) None) (message_tree p is.keeps is.form), refl, tt)))
 
+    -- it takes no third argument
+    too_many : (box : BoxName) (q : ℕ) → args ≡ Box box ∷ Ref q ∷ Fiber ∷ [] → PutIs n typed.callee → ⊥
+    too_many box q e put =
+        let types : have_types p typed.callee of (native_types typed.callee) (Box box ∷ Ref q ∷ Fiber ∷ []) ≡ true = subst (λ (vs : List Value). have_types p typed.callee of (native_types typed.callee) vs ≡ true) e typed.arguments in
+        let both : have_types p typed.callee of (class_vtype typed.callee.owner ∷ vtype (class_type (n + 2)) ∷ []) (Box box ∷ Ref q ∷ Fiber ∷ []) ≡ true =
+        subst (λ (ts : List VType). have_types p typed.callee of ts (Box box ∷ Ref q ∷ Fiber ∷ []) ≡ true) (instance_types typed.callee put.instance ∙ ap (λ (tys : List Ty). class_vtype typed.callee.owner ∷ map vtype tys) put.params) types in
+        let rest = (and_parts (has_type p typed.callee of (class_vtype typed.callee.owner) (Box box)) (is_of p (of q) (class_type (n + 2)) && false) both).1 in
+        false≢true (and_parts (is_of p (of q) (class_type (n + 2))) false rest).1
+
     start_gives : (q : ℕ) → args ≡ Ref q ∷ [] → native_of p id ≡ Some native.Start → IsGivenTree p OfTask h q
     start_gives q e known =
         let start : StartIs n typed.callee = native_takes p is.keeps is.form id typed.callee native.Start typed.there typed.built_in known in
@@ -140,6 +149,7 @@ module _ (set : Setting) (wanted : Wanted) (listed : Listed) (of : Classes) (is 
     asked_gives : (o : Option Native) → native_of p id ≡ o → (own : List Value) → args ≡ own → (root : Root) (q : ℕ) → given o own ≡ Some (root, q) → IsGivenTree p root h q
     asked_gives (Some native.Put) known (Box box ∷ Ref m ∷ []) e root q g = let w = some_same (OfMessage, m) (root, q) g in subst (λ (x : Root × ℕ). IsGivenTree p x.0 h x.1) w (put_gives box m e (native_takes p is.keeps is.form id typed.callee native.Put typed.there typed.built_in known))
     asked_gives (Some native.PutWait) known (Box box ∷ Ref m ∷ []) e root q g = let w = some_same (OfMessage, m) (root, q) g in subst (λ (x : Root × ℕ). IsGivenTree p x.0 h x.1) w (put_gives box m e (native_takes p is.keeps is.form id typed.callee native.PutWait typed.there typed.built_in known))
+    asked_gives (Some native.PutWait) known (Box box ∷ Ref m ∷ Fiber ∷ []) e root q g = absurd (too_many box m e (native_takes p is.keeps is.form id typed.callee native.PutWait typed.there typed.built_in known))
     asked_gives (Some native.Start) known (Ref m ∷ []) e root q g = let w = some_same (OfTask, m) (root, q) g in subst (λ (x : Root × ℕ). IsGivenTree p x.0 h x.1) w (start_gives m e known)
     asked_gives _ known _ e root q g = absurd (none_given (root, q) g)
 

@@ -30,14 +30,18 @@ use Rattle.kilim_program.specs.Members.{execute_of, is_concrete}
 use Rattle.kilim_run_machine.specs.Moves.{Move, moves, push_value}
 use Rattle.kilim_run_machine.specs.Moves as move
 use Rattle.kilim_run_machine.specs.Natives.{Native, native_of}
+use Rattle.kilim_run_machine.specs.Raising.{index_at, other_index, raised_class, thrown, unwound}
 use Rattle.kilim_run_machine.specs.Natives as native
+use Rattle.kilim_run_state.specs.Objects.{new_object}
 use Rattle.kilim_run_state.specs.Shapes.{shape_of}
+use Rattle.std.specs.FinMap.{insert}
 use Rattle.kilim_run_state.specs.Trees.{OfMessage, built, is_root, tree_names, with_objects, without}
 use Rattle.kilim_run_journal.specs.declared.entry.Act.{Act}
 use Rattle.kilim_run_journal.specs.declared.entry.Act.TheVariants.{Put, Take, Empty, Start, Print, End, Bound}
 use Rattle.kilim_run_model.specs.State.{Setting, Thread, Alive, Ended, begun_on, is_fit}
-use Rattle.kilim_run_model.specs.Lone.{Lone, Next, Goes, Puts, PutWaits, Bounds, Gets, Probes, Starts, Prints, Ends, Stands, arg_at, arg_next, asks_next, begins_next, box_limit, ended, finish_next, frames_next, message_next, native_next, next_by, next_move, on_heap, opens_next, over, print_next, printed, pushed, put_next, put_wait_next, bound_next, start_next, thread_next, wait_next, went}
-use Rattle.kilim_run_model.proofs.Raised.{raised_over, raises_over, throws_over}
+use Rattle.kilim_run_model.specs.Lone.{Lone, Next, Goes, Puts, PutWaits, Bounds, Gets, Probes, Starts, Prints, Ends, Stands, arg_at, arg_next, asks_next, begins_next, box_limit, ended, finish_next, frames_next, made_at, message_next, native_next, next_by, next_move, on_heap, opens_next, over, print_next, printed, pushed, put_next, raised, put_wait_next, bound_next, start_next, thread_next, wait_next, went}
+use Rattle.kilim_type_sound.proofs.Caught.{all_raises_fit, index_is, other_is, throws_fit}
+use Rattle.kilim_type_sound.proofs.Raised.{of_has, raises_has, throws_has}
 use Rattle.kilim_run_model.specs.Course.{Done, done_by, fills_deed, probes_deed, puts_deed, received, starts_deed, takes_deed, tree_came, tree_left}
 use Rattle.kilim_run_model.specs.declared.deed.Deed.{Deed}
 use Rattle.kilim_type_spec.specs.Step.{vtype}
@@ -147,11 +151,24 @@ module _ (set : Setting) (typing : Typing) (live : Wanted) (of : Classes) (is : 
     on_frames : (frames : List Activation) (h : Objects) (more-boxes : ℕ) → Fits p typing live of frames h → On of (went (on_heap l h) frames done more-boxes)
     on_frames frames h more-boxes f = record { fits = f; fresh = fresh; kept = kept }
 
+    -- with the object that is made for what is raised
+    further_made : (c : ClassId) (h : Objects) (f : Activation) (fs : List Activation) (count : ℕ) → Fits p typing live (with_class of l.next (class_type c.0)) (f ∷ fs) (insert h l.next (new_object p c)) → Further set typing live of (made_at (on_heap l h) (new_object p c) (f ∷ fs) count boxes)
+    further_made c h f fs count fits = record {
+      more = with_class of l.next (class_type c.0);
+      grows = one_extends of l.next (class_type c.0) (fresh l.next (omega arith));
+      is = record { fits = fits; fresh = one_fresh of l.next (class_type c.0) fresh; kept = λ q e. one_extends of l.next (class_type c.0) (fresh l.next (omega arith)) q (class_type set.main.0) (kept q e) };
+    }
+
     -- ---- a built-in method that is handed out
 
     module _ (id : MethodId) (args : List Value) (frames : List Activation) (h : Objects) (asks : AsksFit p typing live of id args frames h) where
       abbrev behind : Lone
       behind = went (on_heap l h) frames done boxes
+
+      -- what is raised for a cause, behind the call
+      asked_raises : (why : EndCause) → NextFits (raised p behind why)
+      asked_raises why = of_has NextFits p behind why (over_fits behind why asks.heap fresh) (done + 1) boxes (λ c. unwound p c (Ref l.next) frames) (raised_class p other_index why) (λ c e f fs left.
+          further_made c h f fs (done + 1) ((all_raises_fit p typing live is.keeps is.verified).asked of id args frames h asks other_index other_is why c e l.next (fresh l.next (omega arith)) f fs left))
 
       module _ (k : Native) (known : native_of p id ≡ Some k) where
         result : asks.callee.result ≡ gives n k
@@ -179,7 +196,7 @@ module _ (set : Setting) (typing : Typing) (live : Wanted) (of : Classes) (is : 
         put_fits box root (Some shape) e = e
 
         message_next_fits : (box : BoxName) (v : Value) → On of behind → NextFits (message_next p behind box v)
-        message_next_fits box Null e = subst NextFits (sym (raised_over p is.keeps.handlers behind cause.Null)) (over_fits behind cause.Null asks.heap fresh)
+        message_next_fits box Null e = asked_raises cause.Null
         message_next_fits box (Ref root) e = put_fits box root (shape_of p h root) e
         message_next_fits box _ e = tt
 
@@ -188,14 +205,14 @@ module _ (set : Setting) (typing : Typing) (live : Wanted) (of : Classes) (is : 
         put_wait_fits box root (Some shape) e = e
 
         wait_next_fits : (box : BoxName) (v : Value) → On of behind → NextFits (wait_next p behind box v)
-        wait_next_fits box Null e = subst NextFits (sym (raised_over p is.keeps.handlers behind cause.Null)) (over_fits behind cause.Null asks.heap fresh)
+        wait_next_fits box Null e = asked_raises cause.Null
         wait_next_fits box (Ref root) e = put_wait_fits box root (shape_of p h root) e
         wait_next_fits box _ e = tt
 
         bound_next_fits : (box : BoxName) (i : ℤ) → On of behind → NextFits (bound_next p behind box i)
         bound_next_fits box (pos (suc i)) e = e
-        bound_next_fits box (pos zero) e = subst NextFits (sym (raised_over p is.keeps.handlers behind cause.Size)) (over_fits behind cause.Size asks.heap fresh)
-        bound_next_fits box (negsuc i) e = subst NextFits (sym (raised_over p is.keeps.handlers behind cause.Size)) (over_fits behind cause.Size asks.heap fresh)
+        bound_next_fits box (pos zero) e = asked_raises cause.Size
+        bound_next_fits box (negsuc i) e = asked_raises cause.Size
 
         start_fits : (root : ℕ) (o : Option (List Token)) → On of behind → NextFits (start_next behind root o)
         start_fits root None e = over_fits behind cause.Large asks.heap fresh
@@ -206,7 +223,7 @@ module _ (set : Setting) (typing : Typing) (live : Wanted) (of : Classes) (is : 
         print_fits (Some token) e = e
 
         arg_fits : (o : Option ℤ) → ((x : ℤ) → On of (pushed (Int x) behind)) → NextFits (arg_next p behind o)
-        arg_fits None e = subst NextFits (sym (raised_over p is.keeps.handlers behind cause.Index)) (over_fits behind cause.Index asks.heap fresh)
+        arg_fits None e = asked_raises cause.Index
         arg_fits (Some x) e = same_further (pushed (Int x) behind) (e x)
 
       native_fits : (k : Native) (own : List Value) → native_of p id ≡ Some k → NextFits (native_next set behind k own)
@@ -248,9 +265,9 @@ module _ (set : Setting) (typing : Typing) (live : Wanted) (of : Classes) (is : 
         let b = and_parts (is_task p set.main) _ a.1 in
         begins_fit h heap (begun_on p (execute_of p set.main) q) (λ frames begun. execute_begins p is.keeps is.form typing live is.verified of h heap set.main q frames a.0 b.0 (kept q e) begun)
 
-    move_next : (top : Activation) (below : List Activation) (m : Move) → MoveFits p typing live of m → HeapFits p of l.heap → NextFits (next_by set t l done boxes top below m)
-    move_next top below (move.Runs change frames h) m heap = same_further _ (on_frames frames h boxes (record { frames = m.0; heap = m.1 }))
-    move_next top below (move.Makes object frames h) m heap = record {
+    move_next : (top : Activation) (below : List Activation) → Fits p typing live of (top ∷ below) l.heap → (m : Move) → MoveFits p typing live of m → NextFits (next_by set t l done boxes top below m)
+    move_next top below fits (move.Runs change frames h) m = same_further _ (on_frames frames h boxes (record { frames = m.0; heap = m.1 }))
+    move_next top below fits (move.Makes object frames h) m = record {
       more = with_class of l.next object.class;
       grows = one_extends of l.next object.class (fresh l.next (omega arith));
       is = record {
@@ -259,17 +276,19 @@ module _ (set : Setting) (typing : Typing) (live : Wanted) (of : Classes) (is : 
         kept = λ q e. one_extends of l.next object.class (fresh l.next (omega arith)) q (class_type set.main.0) (kept q e);
       };
     }
-    move_next top below (move.Opens frames h) m heap = opens_fit frames h m
-    move_next top below (move.Asks id args frames h) m heap = asks_fit id args frames h m (native_of p id) refl
-    move_next top below (move.Returns h) m heap = finish_fits h m l.kept refl
-    move_next top below (move.Raises c) m heap = subst NextFits (sym (raises_over p is.keeps.handlers l c done boxes top below)) (over_fits l c heap fresh)
-    move_next top below (move.Throws thing class c) m heap = subst NextFits (sym (throws_over p is.keeps.handlers l c (done + 1) boxes thing class top below)) (over_fits l c heap fresh)
-    move_next top below (move.Ends c) m heap = over_fits l c heap fresh
-    move_next top below move.Stuck m heap = absurd m
+    move_next top below fits (move.Opens frames h) m = opens_fit frames h m
+    move_next top below fits (move.Asks id args frames h) m = asks_fit id args frames h m (native_of p id) refl
+    move_next top below fits (move.Returns h) m = finish_fits h m l.kept refl
+    move_next top below fits (move.Raises why) m = raises_has NextFits p l why (over_fits l why fits.heap fresh) done boxes top below (λ c e f fs left.
+        further_made c l.heap f fs (done + 1) ((all_raises_fit p typing live is.keeps is.verified).raised of top below l.heap fits (index_at p top) (index_is p top) why c e l.next (fresh l.next (omega arith)) f fs left))
+    move_next top below fits (move.Throws thing class why) m = throws_has NextFits p l why (over_fits l why fits.heap fresh) (done + 1) boxes (thrown p class (Ref thing) top below) (λ f fs left.
+        same_further _ (record { fits = subst (λ (frames : List Activation). Fits p typing live of frames l.heap) left (throws_fit p typing live of is.keeps is.verified top below l.heap fits class thing m.0 m.1); fresh = fresh; kept = kept }))
+    move_next top below fits (move.Ends c) m = over_fits l c fits.heap fresh
+    move_next top below fits move.Stuck m = absurd m
 
     frames_next_fits : (frames : List Activation) → Fits p typing live of frames l.heap → TopIsThere l.heap frames → NextFits (frames_next set t l frames done boxes)
     frames_next_fits [] f there = over_fits l cause.Done f.heap fresh
-    frames_next_fits (top ∷ below) f there = move_next top below (moves p top below l.heap) (moves_fit p typing live of (facts_hold p is.keeps) is.verified top below l.heap f there) f.heap
+    frames_next_fits (top ∷ below) f there = move_next top below f (moves p top below l.heap) (moves_fit p typing live of (facts_hold p is.keeps) is.verified top below l.heap f there)
 
   next_fits : (t : ℕ) (l : Lone) → On of l → StackIsThere l → NextFits (next_move set t l)
   unfolding next_move

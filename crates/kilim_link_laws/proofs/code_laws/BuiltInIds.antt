@@ -26,12 +26,12 @@ type_by there ty = base_by there ty.base
 
 -- how many built-in classes and methods there are
 abbrev pub class_count : Form → ℕ
-class_count Plain = 7
-class_count Woven = 8
+class_count Plain = 18
+class_count Woven = 19
 
 abbrev pub method_count : Form → ℕ
-method_count Plain = 18
-method_count Woven = 29
+method_count Plain = 29
+method_count Woven = 40
 
 pub class_total : (form : Form) (n m : ℕ) → length (built_in_classes_in form n m) ≡ class_count form
 class_total Plain n m = refl
@@ -45,12 +45,12 @@ abbrev AreThere : Form → ℕ → (ClassId → Bool) → Type 0
 AreThere form n there = (k : ℕ) → k < class_count form → there (class_id (n + k)) ≡ true
 
 owned_by : (form : Form) (n : ℕ) (there : ClassId → Bool) (named : Instr → Bool) → there (class_id n) ≡ true → AreThere form n there → list_all (λ m. there m.owner && list_all (λ e. named e.1) m.code) (built_in_methods_in form n) ≡ true
-owned_by Plain n there named object each = rw object (rw (each 1 (omega arith)) (rw (each 4 (omega arith)) (rw (each 5 (omega arith)) (rw (each 6 (omega arith)) refl))))
-owned_by Woven n there named object each = rw object (rw (each 1 (omega arith)) (rw (each 4 (omega arith)) (rw (each 5 (omega arith)) (rw (each 6 (omega arith)) (rw (each 7 (omega arith)) refl)))))
+owned_by Plain n there named object each = rw object (rw (each 1 (omega arith)) (rw (each 4 (omega arith)) (rw (each 5 (omega arith)) (rw (each 6 (omega arith)) (rw (each 7 (omega arith)) (rw (each 8 (omega arith)) (rw (each 9 (omega arith)) (rw (each 10 (omega arith)) (rw (each 11 (omega arith)) (rw (each 12 (omega arith)) (rw (each 13 (omega arith)) (rw (each 14 (omega arith)) (rw (each 15 (omega arith)) (rw (each 16 (omega arith)) (rw (each 17 (omega arith)) refl)))))))))))))))
+owned_by Woven n there named object each = rw object (rw (each 1 (omega arith)) (rw (each 4 (omega arith)) (rw (each 5 (omega arith)) (rw (each 6 (omega arith)) (rw (each 7 (omega arith)) (rw (each 8 (omega arith)) (rw (each 9 (omega arith)) (rw (each 10 (omega arith)) (rw (each 11 (omega arith)) (rw (each 12 (omega arith)) (rw (each 13 (omega arith)) (rw (each 14 (omega arith)) (rw (each 15 (omega arith)) (rw (each 16 (omega arith)) (rw (each 17 (omega arith)) (rw (each 18 (omega arith)) refl))))))))))))))))
 
 typed_by : (form : Form) (n : ℕ) (there : ClassId → Bool) → there (class_id n) ≡ true → AreThere form n there → list_all (λ m. list_all (type_by there) (types_of_method m)) (built_in_methods_in form n) ≡ true
 typed_by Plain n there object each = rw object (rw (each 1 (omega arith)) (rw (each 2 (omega arith)) refl))
-typed_by Woven n there object each = rw object (rw (each 1 (omega arith)) (rw (each 2 (omega arith)) (rw (each 7 (omega arith)) refl)))
+typed_by Woven n there object each = rw object (rw (each 1 (omega arith)) (rw (each 2 (omega arith)) (rw (each 18 (omega arith)) refl)))
 
 same_base : (p : Program) (b : Base) → has_base p b ≡ base_by (has_class p) b
 same_base p (base.Class c) = refl
@@ -91,16 +91,7 @@ module _ (p : Program) where
   pub built_in_classes_there : (form : Form) (n m : ℕ) → n + class_count form ≤ length p.classes → m + method_count form ≤ length p.methods → list_all (class_ids_there p) (built_in_classes_in form n m) ≡ true
   built_in_classes_there Plain n m room more =
       let up = object_there Plain n room in
-      let one = one_class m 18 more in
-      and_from _ _ (one None (0 ∷ []) refl refl)
-      (and_from _ _ (one (Some (class_id n)) (1 ∷ 2 ∷ 3 ∷ []) up refl)
-      (and_from _ _ (one (Some (class_id n)) [] up refl)
-      (and_from _ _ (one (Some (class_id n)) [] up refl)
-      (and_from _ _ (one (Some (class_id n)) (4 ∷ 5 ∷ 6 ∷ []) up refl)
-      (and_from _ _ (one (Some (class_id n)) (7 ∷ 8 ∷ 9 ∷ 10 ∷ []) up refl)
-      (and_from _ _ (one (Some (class_id n)) (11 ∷ 12 ∷ 13 ∷ 14 ∷ 15 ∷ 16 ∷ 17 ∷ []) up refl) refl))))))
-  built_in_classes_there Woven n m room more =
-      let up = object_there Woven n room in
+      let other = class_at_place n (class_count Plain) room in
       let one = one_class m 29 more in
       and_from _ _ (one None (0 ∷ []) refl refl)
       (and_from _ _ (one (Some (class_id n)) (1 ∷ 2 ∷ 3 ∷ []) up refl)
@@ -109,4 +100,37 @@ module _ (p : Program) where
       (and_from _ _ (one (Some (class_id n)) (4 ∷ 5 ∷ 6 ∷ []) up refl)
       (and_from _ _ (one (Some (class_id n)) (7 ∷ 8 ∷ 9 ∷ 10 ∷ []) up refl)
       (and_from _ _ (one (Some (class_id n)) (11 ∷ 12 ∷ 13 ∷ 14 ∷ 15 ∷ 16 ∷ 17 ∷ []) up refl)
-      (and_from _ _ (one (Some (class_id n)) (18 ∷ 19 ∷ 20 ∷ 21 ∷ 22 ∷ 23 ∷ 24 ∷ 25 ∷ 26 ∷ 27 ∷ 28 ∷ []) up refl) refl)))))))
+      (and_from _ _ (one (Some (class_id n)) (18 ∷ []) up refl)
+      (and_from _ _ (one (Some (class_id (n + 7))) (19 ∷ []) (other 7 (omega arith)) refl)
+      (and_from _ _ (one (Some (class_id (n + 8))) (20 ∷ []) (other 8 (omega arith)) refl)
+      (and_from _ _ (one (Some (class_id (n + 9))) (21 ∷ []) (other 9 (omega arith)) refl)
+      (and_from _ _ (one (Some (class_id (n + 9))) (22 ∷ []) (other 9 (omega arith)) refl)
+      (and_from _ _ (one (Some (class_id (n + 9))) (23 ∷ []) (other 9 (omega arith)) refl)
+      (and_from _ _ (one (Some (class_id (n + 9))) (24 ∷ []) (other 9 (omega arith)) refl)
+      (and_from _ _ (one (Some (class_id (n + 9))) (25 ∷ []) (other 9 (omega arith)) refl)
+      (and_from _ _ (one (Some (class_id (n + 9))) (26 ∷ []) (other 9 (omega arith)) refl)
+      (and_from _ _ (one (Some (class_id (n + 15))) (27 ∷ []) (other 15 (omega arith)) refl)
+      (and_from _ _ (one (Some (class_id (n + 15))) (28 ∷ []) (other 15 (omega arith)) refl) refl)))))))))))))))))
+  built_in_classes_there Woven n m room more =
+      let up = object_there Woven n room in
+      let other = class_at_place n (class_count Woven) room in
+      let one = one_class m 40 more in
+      and_from _ _ (one None (0 ∷ []) refl refl)
+      (and_from _ _ (one (Some (class_id n)) (1 ∷ 2 ∷ 3 ∷ []) up refl)
+      (and_from _ _ (one (Some (class_id n)) [] up refl)
+      (and_from _ _ (one (Some (class_id n)) [] up refl)
+      (and_from _ _ (one (Some (class_id n)) (4 ∷ 5 ∷ 6 ∷ []) up refl)
+      (and_from _ _ (one (Some (class_id n)) (7 ∷ 8 ∷ 9 ∷ 10 ∷ []) up refl)
+      (and_from _ _ (one (Some (class_id n)) (11 ∷ 12 ∷ 13 ∷ 14 ∷ 15 ∷ 16 ∷ 17 ∷ []) up refl)
+      (and_from _ _ (one (Some (class_id n)) (18 ∷ []) up refl)
+      (and_from _ _ (one (Some (class_id (n + 7))) (19 ∷ []) (other 7 (omega arith)) refl)
+      (and_from _ _ (one (Some (class_id (n + 8))) (20 ∷ []) (other 8 (omega arith)) refl)
+      (and_from _ _ (one (Some (class_id (n + 9))) (21 ∷ []) (other 9 (omega arith)) refl)
+      (and_from _ _ (one (Some (class_id (n + 9))) (22 ∷ []) (other 9 (omega arith)) refl)
+      (and_from _ _ (one (Some (class_id (n + 9))) (23 ∷ []) (other 9 (omega arith)) refl)
+      (and_from _ _ (one (Some (class_id (n + 9))) (24 ∷ []) (other 9 (omega arith)) refl)
+      (and_from _ _ (one (Some (class_id (n + 9))) (25 ∷ []) (other 9 (omega arith)) refl)
+      (and_from _ _ (one (Some (class_id (n + 9))) (26 ∷ []) (other 9 (omega arith)) refl)
+      (and_from _ _ (one (Some (class_id (n + 15))) (27 ∷ []) (other 15 (omega arith)) refl)
+      (and_from _ _ (one (Some (class_id (n + 15))) (28 ∷ []) (other 15 (omega arith)) refl)
+      (and_from _ _ (one (Some (class_id n)) (29 ∷ 30 ∷ 31 ∷ 32 ∷ 33 ∷ 34 ∷ 35 ∷ 36 ∷ 37 ∷ 38 ∷ 39 ∷ []) up refl) refl))))))))))))))))))

@@ -139,7 +139,7 @@ same_targets w pool (raw.WideIinc number slot n) y e = nowhere y (given_none (Ii
 -- ---- the end of a path
 
 abbrev is_return : ℕ → Bool
-is_return op = op == 172 || op == 173 || op == 176 || op == 177
+is_return op = op == 172 || op == 173 || op == 176 || op == 177 || op == 191
 
 plain_ends : (number : ℕ) (y : Instr) → row plain_instrs number ≡ Some y → is_return number ≡ true → ends_path y ≡ true
 unfolding ends_path

@@ -1,5 +1,5 @@
 -- What the rows of the built-in classes and methods mean.
-use Rattle.std.specs.Prelude.{ℕ, ◌+◌, Bool, true, List, [], ◌∷◌, ◌++◌, Option, map, option_map}
+use Rattle.std.specs.Prelude.{ℕ, ◌+◌, Bool, true, false, List, [], ◌∷◌, ◌++◌, Option, Some, map, option_map}
 use Rattle.kilim_program.specs.declared.names.ClassId.{ClassId}
 use Rattle.kilim_program.specs.declared.ty.Base.TheVariants as base
 use Rattle.kilim_program.specs.declared.ty.Ty.{Ty}
@@ -13,11 +13,16 @@ use Rattle.kilim_program.specs.BuiltIn.{class_id, plain_type, class_type, built_
 use Rattle.kilim_link_views.specs.declared.built_ins.rows.Kind.{Kind}
 use Rattle.kilim_link_views.specs.declared.built_ins.rows.Kind.TheVariants as kind
 use Rattle.kilim_link_views.specs.declared.built_ins.rows.ClassRow.{ClassRow}
+use Rattle.kilim_link_views.specs.declared.built_ins.rows.ExceptionRow.{ExceptionRow}
 use Rattle.kilim_link_views.specs.declared.built_ins.rows.MethodRow.{MethodRow}
 
 -- the class of a row
 abbrev pub class_of : Option ClassId → ℕ → ClassRow → Class
 class_of superclass first row = built_in_class row.name.now superclass row.message (methods_from first row.methods.now)
+
+-- the class of exceptions of a row, by the numbers of the first class and the first method
+abbrev pub exception_of : ℕ → ℕ → ExceptionRow → Class
+exception_of first method row = built_in_class row.name.now (Some (class_id (first + row.superclass))) false (methods_from method row.methods.now)
 
 -- the type of a kind
 abbrev pub type_of : ℕ → Kind → Ty
@@ -30,7 +35,7 @@ type_of first (kind.Objects class) = record { dims = 1; base = base.Class (class
 
 -- the fiber, where a method takes it
 abbrev pub fiber_kinds : Form → Bool → List Kind
-fiber_kinds Woven true = kind.Object 7 ∷ []
+fiber_kinds Woven true = kind.Object 18 ∷ []
 fiber_kinds _ _ = []
 
 -- its qualifier

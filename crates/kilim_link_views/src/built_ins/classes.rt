@@ -2,10 +2,12 @@
 
 ghost use Rattle.std.specs.Prelude.{◌≡◌, ◌<◌, ◌^◌, ℕ, ◌++◌, ◌∷◌, [], map, Some, OnOk, IfOk};
 ghost use Rattle.kilim_program.specs.BuiltIn.{class_id, methods_from, fiber_classes, built_in_classes_in};
-ghost use Rattle.kilim_link_views.specs.built_ins.Rows.{class_of};
+ghost use Rattle.kilim_link_views.specs.built_ins.Rows.{class_of, exception_of};
 
 use crate::built_ins::parts::text;
-use crate::built_ins::rows::{CLASSES, ClassRow, FIBER_CLASSES, OBJECT_CLASS};
+use crate::built_ins::rows::{
+    CLASSES, ClassRow, EXCEPTION_CLASSES, ExceptionRow, FIBER_CLASSES, OBJECT_CLASS,
+};
 use kilim_program::{Class, ClassId, Form, MethodId};
 use kilim_units::{NoMemory, Seq};
 use std::alloc::Global;
@@ -84,6 +86,50 @@ fn push_classes(
     Ok(())
 }
 
+// Appends a class of exceptions.
+fn push_exception(
+    alloc: Global,
+    classes: &mut Seq<Class>,
+    first: u32,
+    method: u32,
+    row: &ExceptionRow,
+) -> Result<(), NoMemory>
+    requires first { first < 2 ^ 31 }
+    requires method { method < 2 ^ 31 }
+    ensures { OnOk result (classes.new ≡ classes.old ++ exception_of first method row.now ∷ []) }
+{
+    let class = ClassRow {
+        name: row.name,
+        message: false,
+        methods: row.methods,
+    };
+    let superclass = ClassId(first + u32::from(row.superclass));
+    let Ok(()) = push_class(alloc, classes, Some(superclass), method, &class) else {
+        return Err(NoMemory);
+    };
+    Ok(())
+}
+
+// Appends classes of exceptions.
+fn push_exceptions(
+    alloc: Global,
+    classes: &mut Seq<Class>,
+    first: u32,
+    method: u32,
+    rows: &[ExceptionRow],
+) -> Result<(), NoMemory>
+    requires first { first < 2 ^ 31 }
+    requires method { method < 2 ^ 31 }
+    ensures { OnOk result (classes.new ≡ classes.old ++ map (exception_of first method) rows.now) }
+{
+    for row in rows {
+        let Ok(()) = push_exception(alloc, classes, first, method, row) else {
+            return Err(NoMemory);
+        };
+    }
+    Ok(())
+}
+
 /// The built-in classes of a form, in their order (own). The first of them and the first of their methods have these
 /// numbers. Takes memory and time for so many.
 pub fn built_in_classes(
@@ -101,6 +147,9 @@ pub fn built_in_classes(
         return Err(NoMemory);
     };
     let Ok(()) = push_classes(alloc, &mut classes, first, method, CLASSES) else {
+        return Err(NoMemory);
+    };
+    let Ok(()) = push_exceptions(alloc, &mut classes, first, method, EXCEPTION_CLASSES) else {
         return Err(NoMemory);
     };
     let Ok(()) = push_classes(alloc, &mut classes, first, method, fiber_classes(form)) else {

@@ -1,11 +1,11 @@
 //! The methods, class by class.
 
-ghost use Rattle.std.specs.Prelude.{◌≡◌, ◌<◌, ◌^◌, ℕ, ◌++◌, ◌∷◌, [], map, OnOk, IfOk};
-ghost use Rattle.kilim_program.specs.BuiltIn.{built_in_methods_in, fiber_methods};
+ghost use Rattle.std.specs.Prelude.{◌≡◌, ◌<◌, ◌^◌, ℕ, ◌+◌, ◌++◌, ◌∷◌, [], map, OnOk, IfOk};
+ghost use Rattle.kilim_program.specs.BuiltIn.{built_in_constructor, built_in_methods_in, class_id, constructors_of, fiber_methods};
 ghost use Rattle.kilim_link_views.specs.built_ins.Rows.{params_of, marks_of, fiber_kinds, fiber_marks, method_of};
 
 use crate::built_ins::parts::{gives_of, push_types, text};
-use crate::built_ins::rows::{FIBER_METHODS, Kind, METHODS, MethodRow};
+use crate::built_ins::rows::{EXCEPTIONS, FIBER, FIBER_METHODS, Kind, METHODS, MethodRow};
 use kilim_program::{ClassId, Form, Method, Qualifier, Ty};
 use kilim_units::{NoMemory, Seq};
 use std::alloc::Global;
@@ -15,7 +15,7 @@ fn fiber_kinds(form: Form, pausable: bool) -> &'static [Kind]
     ensures { result.now ≡ fiber_kinds form pausable }
 {
     match form {
-        Form::Woven if pausable => &[Kind::Object(7)],
+        Form::Woven if pausable => &[Kind::Object(FIBER)],
         _ => &[],
     }
 }
@@ -119,6 +119,47 @@ fn push_methods(
     Ok(())
 }
 
+// Appends the constructor of a class of exceptions.
+fn push_constructor(
+    alloc: Global,
+    methods: &mut Seq<Method>,
+    first: u32,
+    owner: u8,
+) -> Result<(), NoMemory>
+    requires { first < 2 ^ 31 }
+    ensures { OnOk result (methods.new ≡ methods.old ++ built_in_constructor (class_id (first + owner)) ∷ []) }
+{
+    let row = MethodRow {
+        name: b"<init>",
+        owner,
+        params: &[],
+        gives: None,
+        is_static: false,
+        pausable: false,
+        receiver: Qualifier::Cuttable,
+        qualifiers: &[],
+    };
+    push_method(alloc, methods, Form::Plain, first, &row)
+}
+
+// Appends the constructors of some classes of exceptions.
+fn push_constructors(
+    alloc: Global,
+    methods: &mut Seq<Method>,
+    first: u32,
+    owners: &[u8],
+) -> Result<(), NoMemory>
+    requires { first < 2 ^ 31 }
+    ensures { OnOk result (methods.new ≡ methods.old ++ constructors_of first owners.now) }
+{
+    for owner in owners {
+        let Ok(()) = push_constructor(alloc, methods, first, *owner) else {
+            return Err(NoMemory);
+        };
+    }
+    Ok(())
+}
+
 // Those of `kilim/Fiber`, in woven form alone.
 fn fiber_methods(form: Form) -> &'static [MethodRow<'static>]
     ensures { (first : ℕ) → map (method_of form first) result.now ≡ fiber_methods form first }
@@ -137,6 +178,9 @@ pub fn built_in_methods(alloc: Global, form: Form, first: u32) -> Result<Seq<Met
 {
     let mut methods = Seq::new(alloc);
     let Ok(()) = push_methods(alloc, &mut methods, form, first, METHODS) else {
+        return Err(NoMemory);
+    };
+    let Ok(()) = push_constructors(alloc, &mut methods, first, EXCEPTIONS) else {
         return Err(NoMemory);
     };
     let Ok(()) = push_methods(alloc, &mut methods, form, first, fiber_methods(form)) else {

@@ -23,6 +23,14 @@ pub struct ClassRow<'a> {
     pub methods: &'a [u8],
 }
 
+/// A class of exceptions, which isn't `java/lang/Throwable`.
+#[derive(Drop)]
+pub struct ExceptionRow<'a> {
+    pub name: &'a [u8],
+    pub superclass: u8,
+    pub methods: &'a [u8],
+}
+
 /// A method.
 #[derive(Drop)]
 pub struct MethodRow<'a> {
@@ -49,7 +57,16 @@ const MAILBOX: u8 = 5;
 
 const SYS: u8 = 6;
 
-const FIBER: u8 = 7;
+const THROWABLE: u8 = 7;
+
+const EXCEPTION: u8 = 8;
+
+const RUNTIME_EXCEPTION: u8 = 9;
+
+const INDEX_EXCEPTION: u8 = 15;
+
+/// The place of `kilim/Fiber` behind the first class.
+pub const FIBER: u8 = 18;
 
 /// `java/lang/Object`.
 pub const OBJECT_CLASS: ClassRow = ClassRow {
@@ -90,16 +107,78 @@ pub const CLASSES: &[ClassRow] = &[
         message: false,
         methods: &[11, 12, 13, 14, 15, 16, 17],
     },
+    ClassRow {
+        name: b"java/lang/Throwable",
+        message: false,
+        methods: &[18],
+    },
+];
+
+/// The classes of exceptions below `java/lang/Throwable`.
+pub const EXCEPTION_CLASSES: &[ExceptionRow] = &[
+    ExceptionRow {
+        name: b"java/lang/Exception",
+        superclass: THROWABLE,
+        methods: &[19],
+    },
+    ExceptionRow {
+        name: b"java/lang/RuntimeException",
+        superclass: EXCEPTION,
+        methods: &[20],
+    },
+    ExceptionRow {
+        name: b"java/lang/ArithmeticException",
+        superclass: RUNTIME_EXCEPTION,
+        methods: &[21],
+    },
+    ExceptionRow {
+        name: b"java/lang/NullPointerException",
+        superclass: RUNTIME_EXCEPTION,
+        methods: &[22],
+    },
+    ExceptionRow {
+        name: b"java/lang/NegativeArraySizeException",
+        superclass: RUNTIME_EXCEPTION,
+        methods: &[23],
+    },
+    ExceptionRow {
+        name: b"java/lang/ClassCastException",
+        superclass: RUNTIME_EXCEPTION,
+        methods: &[24],
+    },
+    ExceptionRow {
+        name: b"java/lang/ArrayStoreException",
+        superclass: RUNTIME_EXCEPTION,
+        methods: &[25],
+    },
+    ExceptionRow {
+        name: b"java/lang/IndexOutOfBoundsException",
+        superclass: RUNTIME_EXCEPTION,
+        methods: &[26],
+    },
+    ExceptionRow {
+        name: b"java/lang/ArrayIndexOutOfBoundsException",
+        superclass: INDEX_EXCEPTION,
+        methods: &[27],
+    },
+    ExceptionRow {
+        name: b"java/lang/StringIndexOutOfBoundsException",
+        superclass: INDEX_EXCEPTION,
+        methods: &[28],
+    },
 ];
 
 /// `kilim/Fiber`.
 pub const FIBER_CLASSES: &[ClassRow] = &[ClassRow {
     name: b"kilim/Fiber",
     message: false,
-    methods: &[18, 19, 20, 21, 22, 23, 24, 25, 26, 27, 28],
+    methods: &[29, 30, 31, 32, 33, 34, 35, 36, 37, 38, 39],
 }];
 
-/// The methods, in the order of their classes.
+/// The classes of exceptions, each of which has a constructor, in their order.
+pub const EXCEPTIONS: &[u8] = &[7, 8, 9, 10, 11, 12, 13, 14, 15, 16, 17];
+
+/// The methods before the constructors of exceptions, in the order of their classes.
 pub const METHODS: &[MethodRow] = &[
     MethodRow {
         name: b"<init>",

@@ -65,7 +65,7 @@ unbounded (Empties ∷ notes) order = order
 
 pub calls_are_one_thread : CallsAreOneThread
 calls_are_one_thread first [] most puts queue a = tt
-calls_are_one_thread first ((None, after) ∷ calls) most puts queue a = unbounded (notes_of_calls ((None, after) ∷ calls)) (from_new None first ((None, after) ∷ calls) most puts queue a)
+calls_are_one_thread first ((None, after) ∷ calls) most puts queue a = calls_are_one_thread after calls (a.0.0 ∙ most) (a.0.1 ∙ puts) (a.0.2 ∙ queue) a.1
 calls_are_one_thread first ((Some (Bounds n), after) ∷ calls) most puts queue a = from_new (Some n) after calls a.0.0 (a.0.1 ∙ puts) (a.0.2 ∙ queue) a.1
 calls_are_one_thread first ((Some (Puts n), after) ∷ calls) most puts queue a = unbounded (notes_of_calls ((Some (Puts n), after) ∷ calls)) (from_new None first ((Some (Puts n), after) ∷ calls) most puts queue a)
 calls_are_one_thread first ((Some (Takes n), after) ∷ calls) most puts queue a = unbounded (notes_of_calls ((Some (Takes n), after) ∷ calls)) (from_new None first ((Some (Takes n), after) ∷ calls) most puts queue a)

@@ -24,8 +24,9 @@ AreCalls before (call ∷ calls) = IsCall before call.0 call.1 × AreCalls call.
 abbrev pub IsBounded : Content → ℕ → Content → Type 0
 IsBounded before most after = (after.most ≡ Some most) × (after.puts ≡ before.puts) × (after.queue ≡ before.queue)
 
--- where `bound` is called, it is the first call, and the only one of it
+-- where `bound` is called, it is the only call of it, and before it there are only calls of which there is nothing to say, as of `reserve`
 abbrev pub AreCallsOfNew : Content → List (Option Note × Content) → Type 0
+AreCallsOfNew first ((None, after) ∷ calls) = IsCall first None after × AreCallsOfNew after calls
 AreCallsOfNew first ((Some (Bounds most), after) ∷ calls) = IsBounded first most after × AreCalls after calls
 AreCallsOfNew first calls = AreCalls first calls
 

@@ -83,6 +83,7 @@ args_stand p h top fs held = args_of h top (moves p top fs h) (moves_kin p own (
 given_held : (good : ℕ → Type 0) (root : Root) (n : ℕ) (o : Option Native) (args : List Value) → given o args ≡ Some (root, n) → AreHeld good args → good n
 given_held good root n (Some native.Put) (Box box ∷ Ref m ∷ []) e g = subst good (ap (λ (z : Root × ℕ). z.1) (same_Some _ _ e)) g.1.0
 given_held good root n (Some native.PutWait) (Box box ∷ Ref m ∷ []) e g = subst good (ap (λ (z : Root × ℕ). z.1) (same_Some _ _ e)) g.1.0
+given_held good root n (Some native.PutWait) (Box box ∷ Ref m ∷ Fiber ∷ []) e g = subst good (ap (λ (z : Root × ℕ). z.1) (same_Some _ _ e)) g.1.0
 given_held good root n (Some native.Start) (Ref m ∷ []) e g = subst good (ap (λ (z : Root × ℕ). z.1) (same_Some _ _ e)) g.0
 given_held good root n _ _ e g = absurd (cc)
 

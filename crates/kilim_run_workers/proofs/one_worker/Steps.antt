@@ -23,6 +23,8 @@ use Rattle.kilim_run_workers.specs.one_worker.Pool.{IsOf, IsLending, IsResting, 
 use Rattle.kilim_run_workers.proofs.one_worker.Measures.{IsOver, IsRefused, same_left, act_left, back_left, park_left, refused_left, same_calm, act_calm, back_calm, park_calm}
 use Rattle.kilim_run_board.specs.Seen.{seen, IsRoomy, LendAnswers, GiveAnswers, gives_at, LentStands, CourseAt, SameBoard, ActAnswers, ActMeets, IsActable, IsAnswered, MayBound, RestsAs, wish_in}
 use Rattle.kilim_run_board.proofs.Calls.{may_bound}
+use Rattle.kilim_run_workers.specs.declared.one_worker.Next.TheVariants as next
+use Rattle.kilim_run_workers.specs.Given.{RestsWaiting}
 use Rattle.kilim_run_model.specs.Lone.{Lone}
 use Rattle.kilim_run_model.specs.Course.{Course}
 use Rattle.kilim_run_model.specs.declared.deed.Deed.{Deed}
@@ -334,3 +336,8 @@ module _ {F : Type 0} (task count : F → ℕ) (rests : F → Bool) (refused : F
       let l = park_left task count n (seen b) b1 0 f1 v parks in
       let r : one_if_none (refused f) ≡ 0 = ap one_if_none rightly.0 in
       (park_calm refused (seen b) b1 0 f1 v parks clear calm, omega arith)
+
+-- a fiber that rests at a mailbox has to wait there
+pub rests_waiting : {F : Type 0} (refused : F → Option Waits) (b : kept.Board F) (f : F) (rests : Bool) (before after : ℕ) (waits : Option Waits) → WaitsAt refused b f → RestsRightly {F = F} rests (refused f) before after (wants.Rest waits) → RestsWaiting b (next.Rests waits)
+rests_waiting refused b f rests before after None at rightly = tt
+rests_waiting refused b f rests before after (Some v) at rightly = at v rightly.0

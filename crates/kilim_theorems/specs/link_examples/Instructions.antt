@@ -10,7 +10,7 @@ use Rattle.kilim_class_code.specs.declared.opcodes.forms.OpForm.TheVariants as f
 use Rattle.kilim_class_code.specs.opcodes.Instr.{is_array_code}
 use Rattle.kilim_class_code.specs.opcodes.Table.{form_of}
 use Rattle.kilim_program.specs.declared.instr.Instr.{Instr}
-use Rattle.kilim_program.specs.declared.instr.Instr.TheVariants.{Nop, AconstNull, Iconst, Lconst, Ldc, LdcW, Ldc2W, Iload, Lload, Aload, Iaload, Laload, Aaload, Baload, Caload, Saload, Istore, Lstore, Astore, Iastore, Lastore, Aastore, Bastore, Castore, Sastore, Pop, Pop2, Dup, DupX1, DupX2, Dup2, Dup2X1, Dup2X2, Swap, Iadd, Ladd, Isub, Lsub, Imul, Lmul, Idiv, Ldiv, Irem, Lrem, Ineg, Lneg, Ishl, Lshl, Ishr, Lshr, Iushr, Lushr, Iand, Land, Ior, Lor, Ixor, Lxor, I2l, L2i, I2b, I2c, I2s, Lcmp, Ifeq, Ifne, Iflt, Ifge, Ifgt, Ifle, IfIcmpeq, IfIcmpne, IfIcmplt, IfIcmpge, IfIcmpgt, IfIcmple, IfAcmpeq, IfAcmpne, Goto, Ireturn, Lreturn, Areturn, Return, Getstatic, Getfield, Putfield, Invokevirtual, Invokespecial, Invokestatic, Anewarray, Arraylength, Checkcast, Instanceof, Ifnull, Ifnonnull, GotoW}
+use Rattle.kilim_program.specs.declared.instr.Instr.TheVariants.{Nop, AconstNull, Iconst, Lconst, Ldc, LdcW, Ldc2W, Iload, Lload, Aload, Iaload, Laload, Aaload, Baload, Caload, Saload, Istore, Lstore, Astore, Iastore, Lastore, Aastore, Bastore, Castore, Sastore, Pop, Pop2, Dup, DupX1, DupX2, Dup2, Dup2X1, Dup2X2, Swap, Iadd, Ladd, Isub, Lsub, Imul, Lmul, Idiv, Ldiv, Irem, Lrem, Ineg, Lneg, Ishl, Lshl, Ishr, Lshr, Iushr, Lushr, Iand, Land, Ior, Lor, Ixor, Lxor, I2l, L2i, I2b, I2c, I2s, Lcmp, Ifeq, Ifne, Iflt, Ifge, Ifgt, Ifle, IfIcmpeq, IfIcmpne, IfIcmplt, IfIcmpge, IfIcmpgt, IfIcmple, IfAcmpeq, IfAcmpne, Goto, Ireturn, Lreturn, Areturn, Return, Getstatic, Getfield, Putfield, Invokevirtual, Invokespecial, Invokestatic, Anewarray, Arraylength, Athrow, Checkcast, Instanceof, Ifnull, Ifnonnull, GotoW}
 use Rattle.kilim_program.specs.declared.ty.Base.{Base}
 use Rattle.kilim_program.specs.declared.ty.Base.TheVariants as base
 use Rattle.kilim_program.specs.declared.value.Value.TheVariants.{Int}
@@ -85,7 +85,7 @@ plain_ones =
     ++ (numbered_from 145 1 (I2b ∷ I2c ∷ I2s ∷ Lcmp ∷ [])
     ++ (numbered_from 172 1 (Ireturn ∷ Lreturn ∷ [])
     ++ (numbered_from 176 1 (Areturn ∷ Return ∷ [])
-    ++ numbered_from 190 1 (Arraylength ∷ []))))))))))))))))))
+    ++ numbered_from 190 1 (Arraylength ∷ Athrow ∷ []))))))))))))))))))
 
 abbrev pub local_ones : List (ℕ × Instr)
 local_ones = numbered_from 21 1 (Iload 9 ∷ Lload 9 ∷ []) ++ (numbered_from 25 1 (Aload 9 ∷ []) ++ (numbered_from 54 1 (Istore 9 ∷ Lstore 9 ∷ []) ++ numbered_from 58 1 (Astore 9 ∷ [])))

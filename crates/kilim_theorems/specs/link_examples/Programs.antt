@@ -34,9 +34,9 @@ woven_file = record a_file {
       ∷ [];
 }
 
--- `kilim/Fiber` is the eighth class behind it
+-- `kilim/Fiber` is the nineteenth class behind it
 abbrev pub woven_execute : Method
-woven_execute = record a_execute { params = class_type 8 ∷ []; qualifiers = Safe ∷ [] }
+woven_execute = record a_execute { params = class_type 19 ∷ []; qualifiers = Safe ∷ [] }
 
 abbrev pub woven_program : Program
 woven_program = record {

@@ -301,6 +301,10 @@ code_by_place =
 abbrev pub built_in_members : Form → List (List ℕ × List (List ℕ))
 built_in_members form = map (λ v. (v.name, map (λ m. m.name ++ m.descriptor) v.methods)) (world_of [] form).classes
 
+-- the classes of exceptions have a constructor each, and no other method
+abbrev pub with_constructor : List ℕ → List ℕ × List (List ℕ)
+with_constructor name = (name, codes "<init>()V" ∷ [])
+
 abbrev pub plain_members : Type 0
 plain_members =
     built_in_members Plain
@@ -311,6 +315,17 @@ plain_members =
     ∷ (task, codes "<init>()V" ∷ codes "start()V" ∷ codes "execute()V" ∷ [])
     ∷ (codes "kilim/Mailbox", codes "<init>()V" ∷ codes "put(Lkilim/Message;)V" ∷ codes "get()Lkilim/Message;" ∷ codes "getnb()Lkilim/Message;" ∷ [])
     ∷ (codes "kilim/Sys", codes "print(I)V" ∷ codes "print(J)V" ∷ codes "print(Ljava/lang/String;)V" ∷ codes "yield()V" ∷ codes "argCount()I" ∷ codes "arg(I)I" ∷ codes "take([Lkilim/Message;I)Lkilim/Message;" ∷ [])
+    ∷ with_constructor (codes "java/lang/Throwable")
+    ∷ with_constructor (codes "java/lang/Exception")
+    ∷ with_constructor (codes "java/lang/RuntimeException")
+    ∷ with_constructor (codes "java/lang/ArithmeticException")
+    ∷ with_constructor (codes "java/lang/NullPointerException")
+    ∷ with_constructor (codes "java/lang/NegativeArraySizeException")
+    ∷ with_constructor (codes "java/lang/ClassCastException")
+    ∷ with_constructor (codes "java/lang/ArrayStoreException")
+    ∷ with_constructor (codes "java/lang/IndexOutOfBoundsException")
+    ∷ with_constructor (codes "java/lang/ArrayIndexOutOfBoundsException")
+    ∷ with_constructor (codes "java/lang/StringIndexOutOfBoundsException")
     ∷ []
 
 abbrev pub woven_members : Type 0
@@ -323,6 +338,17 @@ woven_members =
     ∷ (task, codes "<init>()V" ∷ codes "start()V" ∷ codes "execute(Lkilim/Fiber;)V" ∷ [])
     ∷ (codes "kilim/Mailbox", codes "<init>()V" ∷ codes "put(Lkilim/Message;)V" ∷ codes "get(Lkilim/Fiber;)Lkilim/Message;" ∷ codes "getnb()Lkilim/Message;" ∷ [])
     ∷ (codes "kilim/Sys", codes "print(I)V" ∷ codes "print(J)V" ∷ codes "print(Ljava/lang/String;)V" ∷ codes "yield(Lkilim/Fiber;)V" ∷ codes "argCount()I" ∷ codes "arg(I)I" ∷ codes "take([Lkilim/Message;I)Lkilim/Message;" ∷ [])
+    ∷ with_constructor (codes "java/lang/Throwable")
+    ∷ with_constructor (codes "java/lang/Exception")
+    ∷ with_constructor (codes "java/lang/RuntimeException")
+    ∷ with_constructor (codes "java/lang/ArithmeticException")
+    ∷ with_constructor (codes "java/lang/NullPointerException")
+    ∷ with_constructor (codes "java/lang/NegativeArraySizeException")
+    ∷ with_constructor (codes "java/lang/ClassCastException")
+    ∷ with_constructor (codes "java/lang/ArrayStoreException")
+    ∷ with_constructor (codes "java/lang/IndexOutOfBoundsException")
+    ∷ with_constructor (codes "java/lang/ArrayIndexOutOfBoundsException")
+    ∷ with_constructor (codes "java/lang/StringIndexOutOfBoundsException")
     ∷ (
       codes "kilim/Fiber",
       codes "pc()I" ∷ codes "down()Lkilim/Fiber;" ∷ codes "up()I" ∷ codes "saveI(ILkilim/Fiber;)V" ∷ codes "saveJ(JLkilim/Fiber;)V" ∷ codes "saveA(Ljava/lang/Object;Lkilim/Fiber;)V"

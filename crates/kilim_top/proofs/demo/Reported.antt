@@ -1,5 +1,5 @@
 -- The class files of the demo are class files: no report is that of one that isn't.
-use Rattle.std.proofs.Common.{◌≡◌, inl, inr, ℕ, List, [], ◌∷◌, Option, Some, None, Result, Ok, Err, map, refl, ap, subst, ◌∙◌}
+use Rattle.std.proofs.Common.{◌≡◌, inl, inr, ℕ, List, [], ◌∷◌, None, Result, Ok, Err, map, refl, ap, subst, ◌∙◌}
 use Rattle.std.specs.List.{AllByRecursion}
 use Rattle.kilim_lemmas.proofs.Options.{none_no_some}
 use Rattle.kilim_class_file.specs.declared.class_file.ClassFile.{ClassFile}

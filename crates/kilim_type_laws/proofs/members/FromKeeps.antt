@@ -29,13 +29,13 @@ all_at test (y ∷ xs) zero x a e = subst (λ z. test z ≡ true) (let s : y ≡
 all_at test (y ∷ xs) (suc k) x a e = all_at test xs k x (and_parts (test y) (list_all test xs) a).1 e
 
 -- there are two classes and more
-seven : (form : Form) (a b : ℕ) → (n : ℕ) × (length (built_in_classes_in form a b) ≡ suc (suc n))
-seven Plain a b = (5, refl)
-seven Woven a b = (6, refl)
+two_built : (form : Form) (a b : ℕ) → (n : ℕ) × (length (built_in_classes_in form a b) ≡ suc (suc n))
+two_built Plain a b = (16, refl)
+two_built Woven a b = (17, refl)
 
 two_classes : (p : Program) → Keeps p → (n : ℕ) × (length p.classes ≡ suc (suc n))
 two_classes p keeps =
-    let s = seven p.form (length keeps.built_in.own_classes) (length keeps.built_in.own_methods) in
+    let s = two_built p.form (length keeps.built_in.own_classes) (length keeps.built_in.own_methods) in
     let e = ap length keeps.built_in.classes ∙ (length-append keeps.built_in.own_classes _ ∙ ap (λ (k : ℕ). length keeps.built_in.own_classes + k) s.1) in
     (length keeps.built_in.own_classes + s.0, e ∙ omega arith)
 

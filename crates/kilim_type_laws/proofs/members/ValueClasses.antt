@@ -1,9 +1,9 @@
 -- The classes of strings, mailboxes and fibers: found by their names, not abstract, and without fields.
-use Rattle.std.proofs.Common.{◌≡◌, ℕ, zero, suc, ◌+◌, ◌-◌, ◌≤◌, Bool, true, false, cond, List, [], ◌∷◌, ◌++◌, length, take, reverse, filter, Option, Some, None, refl, sym, ap, subst, ◌∙◌, arith}
-use Rattle.std.specs.Prelude.{◌&&◌, ◌||◌, not, slice_get, codes}
+use Rattle.std.proofs.Common.{◌≡◌, ◌⊎◌, inl, inr, ℕ, zero, suc, ◌+◌, ◌-◌, ◌≤◌, Bool, true, false, cond, List, [], ◌∷◌, ◌++◌, length, take, reverse, filter, Option, Some, None, refl, sym, ap, subst, ◌∙◌, arith}
+use Rattle.std.specs.Prelude.{◌&&◌, ◌||◌, not, nat_le, nat_lt, slice_get, codes}
 use Rattle.std.specs.List.{list_any, list_all, flat_map, AllByRecursion}
 use Rattle.std.specs.Str.{bytes_eq}
-use Rattle.std.proofs.lemmas.Bool.{and_parts, and_from, not-true, or_from}
+use Rattle.std.proofs.lemmas.Bool.{and_parts, and_from, ltb-true, not-true, or_from}
 use Rattle.std.proofs.lemmas.Grind.{flat_map-append}
 use Rattle.std.proofs.lemmas.List.{length-append, reverse-append, take_at}
 use Rattle.kilim_program.specs.declared.class.Class.{Class}
@@ -15,11 +15,12 @@ use Rattle.kilim_program.specs.declared.ty.Ty.{Ty}
 use Rattle.kilim_program.specs.Program.{Program}
 use Rattle.kilim_program.specs.BuiltIn.{built_in_classes_in, class_id, class_type}
 use Rattle.kilim_program.specs.Names.{◌>>=◌, class_at, class_from, class_name, class_named, fields_of, is_empty, line_of, line_up_to}
-use Rattle.kilim_program.specs.Keeps.{Keeps, is_open_superclass, names_differ, own_class_fits, own_classes_fit, own_count}
+use Rattle.kilim_program.specs.Keeps.{Keeps, each_class_from, is_open_superclass, names_differ, own_class_fits, own_classes_fit, own_count}
 use Rattle.kilim_program.specs.Same.{all_differ, same_field, same_method}
 use Rattle.kilim_program.specs.Members.{named_class, named_type}
 use Rattle.kilim_program.specs.Members.{is_concrete, is_instance_field, object_fields}
-use Rattle.kilim_lemmas.proofs.Lists.{get_right}
+use Rattle.kilim_program.proofs.BuiltIns.{each_class_at}
+use Rattle.kilim_lemmas.proofs.Lists.{get_right, get_some}
 use Rattle.kilim_lemmas.proofs.Texts.{text_is}
 use Rattle.kilim_type_laws.specs.members.Chosen.{is_value_name, has_instances}
 use Rattle.kilim_type_laws.proofs.members.FromKeeps.{all_at, among_both}
@@ -151,17 +152,45 @@ some_type a b e = cc
 abbrev has_none : Program → ClassId → Bool
 has_none p c = is_empty (fields_of p c)
 
--- a superclass of the built-in classes is the first of them
+-- the number of a class of exceptions
+abbrev pub is_late : ℕ → Bool
+is_late k = nat_le 7 k && nat_lt k 18
+
+-- a superclass of the built-in classes is the first of them, or a class of exceptions
 abbrev pub UpIs : ℕ → Option ClassId → Type 0
 UpIs first None = Unit {0}
-UpIs first (Some up) = up.0 ≡ first
+UpIs first (Some up) = (up.0 ≡ first) ⊎ ((k : ℕ) × (up.0 ≡ first + k) × (is_late k ≡ true))
 
 abbrev pub IsPlain : ℕ → Class → Type 0
 IsPlain first class = (class.fields ≡ []) × UpIs first class.superclass
 
 pub built_plain : (form : Form) (first method : ℕ) → AllByRecursion (IsPlain first) (built_in_classes_in form first method)
-built_plain Plain first method = ((refl, tt), ((refl, refl), ((refl, refl), ((refl, refl), ((refl, refl), ((refl, refl), ((refl, refl), tt)))))))
-built_plain Woven first method = ((refl, tt), ((refl, refl), ((refl, refl), ((refl, refl), ((refl, refl), ((refl, refl), ((refl, refl), ((refl, refl), tt))))))))
+built_plain Plain first method = ((refl, tt), ((refl, inl refl), ((refl, inl refl), ((refl, inl refl), ((refl, inl refl), ((refl, inl refl), ((refl, inl refl), ((refl, inl refl), ((refl, inr (7, refl, refl)), ((refl, inr (8, refl, refl)), ((refl, inr (9, refl, refl)), ((refl, inr (9, refl, refl)), ((refl, inr (9, refl, refl)), ((refl, inr (9, refl, refl)), ((refl, inr (9, refl, refl)), ((refl, inr (9, refl, refl)), ((refl, inr (15, refl, refl)), ((refl, inr (15, refl, refl)), tt))))))))))))))))))
+built_plain Woven first method = ((refl, tt), ((refl, inl refl), ((refl, inl refl), ((refl, inl refl), ((refl, inl refl), ((refl, inl refl), ((refl, inl refl), ((refl, inl refl), ((refl, inr (7, refl, refl)), ((refl, inr (8, refl, refl)), ((refl, inr (9, refl, refl)), ((refl, inr (9, refl, refl)), ((refl, inr (9, refl, refl)), ((refl, inr (9, refl, refl)), ((refl, inr (9, refl, refl)), ((refl, inr (9, refl, refl)), ((refl, inr (15, refl, refl)), ((refl, inr (15, refl, refl)), ((refl, inl refl), tt)))))))))))))))))))
+
+-- a class of values is directly below the first of them
+abbrev pub UpIsFirst : ℕ → Option ClassId → Type 0
+UpIsFirst first None = Unit {0}
+UpIsFirst first (Some up) = up.0 ≡ first
+
+abbrev pub IsAtTop : ℕ → Class → Type 0
+IsAtTop first class = is_value_name class.name ≡ true → UpIsFirst first class.superclass
+
+pub built_at_top : (form : Form) (first method : ℕ) → AllByRecursion (IsAtTop first) (built_in_classes_in form first method)
+built_at_top Plain first method = ((λ v. tt), ((λ v. refl), ((λ v. refl), ((λ v. refl), ((λ v. refl), ((λ v. refl), ((λ v. refl), ((λ v. refl), ((λ v. absurd (let z : false ≡ true = v in cc)), ((λ v. absurd (let z : false ≡ true = v in cc)), ((λ v. absurd (let z : false ≡ true = v in cc)), ((λ v. absurd (let z : false ≡ true = v in cc)), ((λ v. absurd (let z : false ≡ true = v in cc)), ((λ v. absurd (let z : false ≡ true = v in cc)), ((λ v. absurd (let z : false ≡ true = v in cc)), ((λ v. absurd (let z : false ≡ true = v in cc)), ((λ v. absurd (let z : false ≡ true = v in cc)), ((λ v. absurd (let z : false ≡ true = v in cc)), tt))))))))))))))))))
+built_at_top Woven first method = ((λ v. tt), ((λ v. refl), ((λ v. refl), ((λ v. refl), ((λ v. refl), ((λ v. refl), ((λ v. refl), ((λ v. refl), ((λ v. absurd (let z : false ≡ true = v in cc)), ((λ v. absurd (let z : false ≡ true = v in cc)), ((λ v. absurd (let z : false ≡ true = v in cc)), ((λ v. absurd (let z : false ≡ true = v in cc)), ((λ v. absurd (let z : false ≡ true = v in cc)), ((λ v. absurd (let z : false ≡ true = v in cc)), ((λ v. absurd (let z : false ≡ true = v in cc)), ((λ v. absurd (let z : false ≡ true = v in cc)), ((λ v. absurd (let z : false ≡ true = v in cc)), ((λ v. absurd (let z : false ≡ true = v in cc)), ((λ v. refl), tt)))))))))))))))))))
+
+-- none of the classes of exceptions has the name of a class of values
+abbrev late_differs : ClassId → Class → Bool
+late_differs c class = not (is_late c.0) || not (is_value_name class.name)
+
+late_names : (form : Form) (first method : ℕ) → each_class_from late_differs 0 (built_in_classes_in form first method) ≡ true
+late_names Plain first method = refl
+late_names Woven first method = refl
+
+many_built : (form : Form) (a b : ℕ) → 18 ≤ length (built_in_classes_in form a b)
+many_built Plain a b = let e : length (built_in_classes_in Plain a b) ≡ 18 = refl in omega (arith, e)
+many_built Woven a b = let e : length (built_in_classes_in Woven a b) ≡ 19 = refl in omega (arith, e)
 
 pub all_of_at : {A : Type 0} (P : A → Type 0) (xs : List A) → AllByRecursion P xs → (k : ℕ) (x : A) → slice_get xs k ≡ Some x → P x
 all_of_at P [] all k x at = absurd (cc)
@@ -242,6 +271,18 @@ module _ (p : Program) (keeps : Keeps p) where
   pub apart : (name : List ℕ) → list_any (λ c. bytes_eq c.name name) built ≡ true → (k : ℕ) (c : Class) → slice_get own k ≡ Some c → bytes_eq c.name name ≡ false
   apart name any k c at = differs_from own built name k c both_differ any at
 
+  pub late_is_no_value : (k : ℕ) → is_late k ≡ true → is_value_name (class_name p (class_id (length own + k))) ≡ false
+  late_is_no_value k late =
+      let within = ltb-true k 18 (and_parts (nat_le 7 k) (nat_lt k 18) late).1 in
+      let many = many_built p.form (length own) (length keeps.built_in.own_methods) in
+      let c = get_some built k (omega (arith, within, many)) in
+      let there : slice_get p.classes (length own + k) ≡ Some c.0 = ap (λ (cs : List Class). slice_get cs (length own + k)) keeps.built_in.classes ∙ (get_right own built (length own + k) k refl ∙ c.1) in
+      let number : 0 + k ≡ k = omega arith in
+      let differs : late_differs (class_id k) c.0 ≡ true =
+      subst (λ (j : ℕ). late_differs (class_id j) c.0 ≡ true) number (each_class_at late_differs 0 built (late_names p.form (length own) (length keeps.built_in.own_methods)) k c.0 c.1) in
+      ap (λ (o : Option Class). is_value_name (elim o [ None ↦ [] | Some class ↦ class.name ])) there
+      ∙ not-true _ (subst (λ (z : Bool). (not z || not (is_value_name c.0.name)) ≡ true) late differs)
+
   no_fiber : (k : ℕ) (c : Class) → slice_get own k ≡ Some c → bytes_eq c.name (codes "kilim/Fiber") ≡ false
   no_fiber k c at = not-true _ (and_parts (not (bytes_eq c.name (codes "kilim/Fiber"))) (is_open_superclass p c.superclass) (all_at (own_class_fits p) own k c own_fits at)).0
 
@@ -279,7 +320,8 @@ module _ (p : Program) (keeps : Keeps p) where
     where
       up : (o : Option ClassId) → UpIs (length own) o → ((d : ClassId) → length own ≤ d.0 → list_all (has_none p) (line_up_to p n d) ≡ true) → list_all (has_none p) (elim o [ None ↦ [] | Some up ↦ line_up_to p n up ]) ≡ true
       up None is again = refl
-      up (Some d) is again = again d (omega (arith, is))
+      up (Some d) (inl is) again = again d (omega (arith, is))
+      up (Some d) (inr is) again = let number = is.1 in again d (omega (arith, number))
 
       by : (o : Option Class) → class_at p c ≡ o → ((d : ClassId) → length own ≤ d.0 → list_all (has_none p) (line_up_to p n d) ≡ true) → list_all (has_none p) (line_up_to p (suc n) c) ≡ true
       by None there again = subst (λ (o : Option Class). (is_empty (elim o [ None ↦ [] | Some class ↦ class.fields ]) && list_all (has_none p) (elim (o >>= λ (class : Class). class.superclass) [ None ↦ [] | Some up ↦ line_up_to p n up ])) ≡ true) (sym there) refl

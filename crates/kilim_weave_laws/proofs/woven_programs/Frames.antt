@@ -27,7 +27,7 @@ module _ (p : Program) (m : Method) where
             (λ q later. same q (omega (arith, up, later)) ∙ ap (λ (b : Bool). cond b f (frame_among es rest q)) (ne_eqb e.0 q (λ is. omega (arith, up, later, is)))),
       )
 
-  arrives : (flow d : Option Types) (f : Types) → Here p flow d f → arriving flow d ≡ Some f
+  pub arrives : (flow d : Option Types) (f : Types) → Here p flow d f → arriving flow d ≡ Some f
   arrives None None f h = absurd h
   arrives None (Some d) f h = ap (λ (z : Types). Some z) (sym h)
   arrives (Some g) None f h = ap (λ (z : Types). Some z) (sym h)

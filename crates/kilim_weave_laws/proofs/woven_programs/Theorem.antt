@@ -26,12 +26,12 @@ use Rattle.kilim_program.specs.Fits.{fits_type, is_named, type_assignable, base_
 use Rattle.kilim_program.specs.Keeps.{Keeps, code_is_whole, method_is_sound}
 use Rattle.kilim_program.specs.Lengths.{code_stands, first_place, has_length, is_code_place, is_reference_type}
 use Rattle.kilim_program.specs.Lengths as lengths
-use Rattle.kilim_program.specs.Names.{class_at, class_from, class_name, class_named, is_empty, method_at}
+use Rattle.kilim_program.specs.Names.{line_of, class_at, class_from, class_name, class_named, is_empty, method_at}
 use Rattle.kilim_program.specs.Program.{Program}
 use Rattle.kilim_program.specs.Same.{argument_slots, is_constructor, type_slots}
 use Rattle.kilim_lemmas.proofs.Lists.{get_right, get_some}
 use Rattle.kilim_type_spec.specs.Step.{Types, peek, is_top, is_unset_this, is_object, words, assignable, base_vtype, dims_vtype, vtype_of_class, may_make, superclass_at}
-use Rattle.kilim_type_spec.specs.Typed.{IsWellTyped, WellTyped, declared, entry, frame_fits, frame_in, halves, has_code, is_proper, param_slots, stands_at_new, this_types, typing_of}
+use Rattle.kilim_type_spec.specs.Typed.{IsWellTyped, WellTyped, declared, entry, frame_fits, frame_in, halves, has_code, is_proper, is_throwable, param_slots, stands_at_new, this_types, typing_of}
 use Rattle.kilim_weave_spec.specs.Form.{WovenForm, woven_as, has_calls, plan_of, only_with_fiber, first_class, first_method}
 use Rattle.kilim_weave_spec.specs.Weight.{weight, calls_in, one_more}
 use Rattle.kilim_weave_spec.specs.Woven.{fiber_class, fiber_ty, larger, member, pausable_callee}
@@ -48,7 +48,8 @@ use Rattle.kilim_type_laws.proofs.NoTable.{none_handles}
 use Rattle.kilim_type_laws.proofs.members.FromKeeps.{all_at, itself}
 use Rattle.kilim_type_laws.proofs.members.ValueClasses as values
 use Rattle.kilim_weave_laws.specs.woven_programs.Law.{EachIsShort, KeepsPauses, NoneAcross, WovenProgramsAreTyped}
-use Rattle.kilim_weave_laws.proofs.woven_programs.ClassLists.{assigns, class_kept, class_named_kept, class_named_same, name_is, name_kept, name_of}
+use Rattle.kilim_weave_laws.proofs.woven_programs.ClassLists.{any_kept, assigns, class_kept, class_named_kept, class_named_same, line_kept, name_is, name_kept, name_of, named_kept}
+use Rattle.kilim_weave_laws.proofs.woven_programs.Handled.{handles_kept, none_pauses_with_table}
 use Rattle.kilim_weave_laws.proofs.woven_programs.Frames.{by_place}
 use Rattle.kilim_weave_laws.proofs.woven_programs.Methods.{IsFound, Like, fibers, like, members_behind, woven_at}
 use Rattle.kilim_weave_laws.proofs.woven_programs.Naming.{owner_there}
@@ -81,9 +82,9 @@ skips (x ∷ xs) ys name n apart =
     ap (λ (z : Bool). cond z (Some (class_id n)) (class_from (xs ++ ys) name (suc n))) (apart 0 x refl)
     ∙ (skips xs ys name (suc n) (λ k c e. apart (suc k) c e) ∙ ap (class_from ys name) number)
 
-seven : (form : Form) (a b : ℕ) → form ≡ Plain → length (built_in_classes_in form a b) ≡ 7
-seven Plain a b e = refl
-seven Woven a b e = absurd (cc)
+eighteen : (form : Form) (a b : ℕ) → form ≡ Plain → length (built_in_classes_in form a b) ≡ 18
+eighteen Plain a b e = refl
+eighteen Woven a b e = absurd (cc)
 
 has_object : (form : Form) (a b : ℕ) → list_any (λ c. bytes_eq c.name (codes "java/lang/Object")) (built_in_classes_in form a b) ≡ true
 has_object Plain a b = refl
@@ -191,7 +192,7 @@ module _ (P W : Program) (counted : List (List Bool)) (keeps : Keeps P) (plainly
   made = length keeps.built_in.own_methods
 
   abbrev pub fiber_parts : Class
-  fiber_parts = built_in_class (codes "kilim/Fiber") (Some (class_id (first_class P))) false (methods_from (first_method P) (18 ∷ 19 ∷ 20 ∷ 21 ∷ 22 ∷ 23 ∷ 24 ∷ 25 ∷ 26 ∷ 27 ∷ 28 ∷ []))
+  fiber_parts = built_in_class (codes "kilim/Fiber") (Some (class_id (first_class P))) false (methods_from (first_method P) (29 ∷ 30 ∷ 31 ∷ 32 ∷ 33 ∷ 34 ∷ 35 ∷ 36 ∷ 37 ∷ 38 ∷ 39 ∷ []))
 
   abbrev pub Grown : Type 0
   Grown = W.classes ≡ P.classes ++ fiber_parts ∷ []
@@ -199,15 +200,15 @@ module _ (P W : Program) (counted : List (List Bool)) (keeps : Keeps P) (plainly
   pub grown : Grown
   grown = form.classes
 
-  pub how_many : length P.classes ≡ own + 7
+  pub how_many : length P.classes ≡ own + 18
   how_many =
       ap length keeps.built_in.classes
-      ∙ (length-append keeps.built_in.own_classes (built_in_classes_in P.form own made) ∙ ap (λ (n : ℕ). own + n) (seven P.form own made plainly))
+      ∙ (length-append keeps.built_in.own_classes (built_in_classes_in P.form own made) ∙ ap (λ (n : ℕ). own + n) (eighteen P.form own made plainly))
 
   pub first_is : first_class P ≡ own
-  first_is = let e : first_class P ≡ length P.classes - 7 = refl in let n = how_many in omega (arith, e, n)
+  first_is = let e : first_class P ≡ length P.classes - 18 = refl in let n = how_many in omega (arith, e, n)
 
-  fiber_number : first_class P + 7 ≡ length P.classes
+  fiber_number : first_class P + 18 ≡ length P.classes
   fiber_number = let e = first_is in let n = how_many in omega (arith, e, n)
 
   object_named : class_named P (codes "java/lang/Object") ≡ Some (class_id (first_class P))
@@ -248,7 +249,7 @@ module _ (P W : Program) (counted : List (List Bool)) (keeps : Keeps P) (plainly
 
   -- ---- the members of the fiber
 
-  owner_is : class_id (first_class P + 7) ≡ fiber_class P
+  owner_is : class_id (first_class P + 18) ≡ fiber_class P
   owner_is = ap class_id fiber_number
 
   type_is : fiber_type (first_class P) ≡ fiber_ty P
@@ -285,7 +286,7 @@ module _ (P W : Program) (counted : List (List Bool)) (keeps : Keeps P) (plainly
         save_int = record { method = on_fiber first (codes "saveI") int_type; there = member_there 3 _ refl; has_params = ap (λ (ty : Ty). int_type ∷ ty ∷ []) type_is; has_result = refl; has_static = refl; is_public = refl; has_owner = owner_is; plain = refl };
         save_long = record { method = on_fiber first (codes "saveJ") (plain_type base.Long); there = member_there 4 _ refl; has_params = ap (λ (ty : Ty). plain_type base.Long ∷ ty ∷ []) type_is; has_result = refl; has_static = refl; is_public = refl; has_owner = owner_is; plain = refl };
         save_object = record { method = on_fiber first (codes "saveA") (class_type first); there = member_there 5 _ refl; has_params = ap (λ (ty : Ty). class_type first ∷ ty ∷ []) type_is; has_result = refl; has_static = refl; is_public = refl; has_owner = owner_is; plain = refl };
-        place = record { method = built_in_method (codes "place") (class_id (first + 7)) (int_type ∷ class_type first ∷ fiber_type first ∷ []) None true false Safe (Safe ∷ Safe ∷ Safe ∷ []); there = member_there 6 _ refl; has_params = ap (λ (ty : Ty). int_type ∷ class_type first ∷ ty ∷ []) type_is; has_result = refl; has_static = refl; is_public = refl; has_owner = owner_is; plain = refl };
+        place = record { method = built_in_method (codes "place") (class_id (first + 18)) (int_type ∷ class_type first ∷ fiber_type first ∷ []) None true false Safe (Safe ∷ Safe ∷ Safe ∷ []); there = member_there 6 _ refl; has_params = ap (λ (ty : Ty). int_type ∷ class_type first ∷ ty ∷ []) type_is; has_result = refl; has_static = refl; is_public = refl; has_owner = owner_is; plain = refl };
         rest_int = record { method = of_fiber first (codes "restI") (Some int_type); there = member_there 7 _ refl; has_params = refl; has_result = refl; has_static = refl; is_public = refl; has_owner = owner_is; plain = refl };
         rest_long = record { method = of_fiber first (codes "restJ") (Some (plain_type base.Long)); there = member_there 8 _ refl; has_params = refl; has_result = refl; has_static = refl; is_public = refl; has_owner = owner_is; plain = refl };
         rest_object = record { method = of_fiber first (codes "restA") (Some (class_type first)); there = member_there 9 _ refl; has_params = refl; has_result = refl; has_static = refl; is_public = refl; has_owner = owner_is; plain = refl };
@@ -377,21 +378,25 @@ module _ (P W : Program) (counted : List (List Bool)) (keeps : Keeps P) (plainly
   unfolding code_is_whole
   code_at id m at = (and_parts (code_stands 0 m.code m.code_length) _ (all_at code_is_whole P.methods id.0 m keeps.code at)).0
 
+  throwable_kept : (c : ClassId) → is_throwable P c ≡ true → is_throwable W c ≡ true
+  throwable_kept c e = any_kept (is_named P (codes "java/lang/Throwable")) (is_named W (codes "java/lang/Throwable")) (λ d. named_kept P W fiber_parts grown (codes "java/lang/Throwable") d refl) (line_of W c)
+      (line_kept P W fiber_parts grown (is_named P (codes "java/lang/Throwable")) c e)
+
   -- ---- one method
 
   module _ (typed : IsWellTyped P) (pauses : KeepsPauses P) (id : MethodId) (m : Method) (at : method_at P id ≡ Some m) (code : has_code m ≡ true) where
     old : WellTyped P m
     old = typed.methods id m at code
 
-    no_table : is_empty m.handlers ≡ true
-    no_table = all_at (λ (n : Method). is_empty n.handlers) P.methods id.0 m keeps.handlers at
+    no_table : m.pausable ≡ true → is_empty m.handlers ≡ true
+    no_table is = none_pauses_with_table P keeps id m at is
 
     as_it_was : m.pausable ≡ false → WellTyped W m
     as_it_was is = record {
       arguments = old.arguments;
       frames = old.frames;
       walk = unchanged P W m (assigns P W fiber_parts grown) (above id m at) (programs id m m at refl) m.code (Some (entry m)) (pauses.plain id m at is) old.walk;
-      handled = none_handles W m no_table (Some (entry m)) m.code;
+      handled = handles_kept P W m (assigns P W fiber_parts grown) (above id m at) (programs id m m at refl) throwable_kept m.code (Some (entry m)) (pauses.plain id m at is) old.walk old.handled;
     }
 
     -- without pausable calls
@@ -438,7 +443,7 @@ module _ (P W : Program) (counted : List (List Bool)) (keeps : Keeps P) (plainly
             ap (λ (u : Bool). let z : Types = record { locals = cl; stack = []; unset = u } in Some z) (no_mark m.is_static plain_name),
             λ j t. ap (λ (ls : List VType). peek ls j) longer ∙ peek_front fl (param_slots (fiber_ty P ∷ [])) j (peek_end fl j t),
           );
-          handled = none_handles W handed no_table (Some (entry handed)) m.code;
+          handled = none_handles W handed (no_table is) (Some (entry handed)) m.code;
         }
       where
         fits_in : is_constructor m ≡ false → nat_le (argument_slots handed) handed.max_locals ≡ true
@@ -483,8 +488,8 @@ module _ (P W : Program) (counted : List (List Bool)) (keeps : Keeps P) (plainly
           params = ap (λ (z : Method). z.params) e;
           result = ap (λ (z : Method). z.result) e;
           is_static = ap (λ (z : Method). z.is_static) e;
-          handlers = ap (λ (z : Method). is_empty z.handlers) e ∙ no_table;
-          had_none = no_table;
+          handlers = ap (λ (z : Method). is_empty z.handlers) e ∙ no_table is;
+          had_none = no_table is;
         } in
         record {
           typed = by_place P m (whole_code m (code_at id m at)).grows old;

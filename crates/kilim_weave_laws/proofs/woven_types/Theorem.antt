@@ -16,7 +16,7 @@ use Rattle.kilim_program.specs.Same.{argument_slots, type_slots}
 use Rattle.kilim_type_spec.specs.Step.{Types, size, words, class_vtype}
 use Rattle.kilim_type_spec.specs.Typed.{WellTyped, TypedBy, entry}
 use Rattle.kilim_type_laws.proofs.NoTable.{none_handles}
-use Rattle.kilim_weave_spec.specs.Woven.{Plan, fiber, fiber_ty, fiber_slot, added_types, pausable_callee, below, taken, behind, Item, Mark, Does, Old, Resumes, Labelled}
+use Rattle.kilim_weave_spec.specs.Woven.{Plan, fiber, fiber_ty, fiber_slot, added_types, pausable_callee, below, taken}
 use Rattle.kilim_weave_laws.specs.woven_types.Facts.{Whole, Facts, PlaceFacts}
 use Rattle.kilim_weave_laws.specs.woven_types.Theorem.{Weaving}
 use Rattle.kilim_weave_spec.specs.Weight.{weight}

@@ -16,8 +16,9 @@ use Rattle.kilim_program.specs.Program.{Program}
 use Rattle.kilim_program.specs.Lengths.{jump_targets, ends_path}
 use Rattle.kilim_program.specs.Names.{class_at}
 use Rattle.kilim_program.specs.Same.{is_constructor}
-use Rattle.kilim_type_spec.specs.Step.{Types, peek, class_vtype, Operand, Is, AReference, Initialized, ArrayOf, References, AnArray, Own, References, meets, all_meet, assignable, Further, further, store, constructed, is_class, superclass_at, constant_row, field_row, static_row, virtual_row, special_row, special_by, special_fits, Row, Takes, Element, Shuffles, Loads, Stores, Adds, Makes, Constructs, Leaves, row, by_row}
+use Rattle.kilim_type_spec.specs.Step.{Types, peek, class_vtype, Operand, Is, AReference, Initialized, ArrayOf, References, AnArray, Own, References, meets, all_meet, assignable, Further, further, store, constructed, is_class, superclass_at, constant_row, field_row, static_row, virtual_row, special_row, special_by, special_fits, Row, Takes, Element, Shuffles, Loads, Stores, Adds, Makes, Constructs, Leaves, row, by_row, type_step}
 use Rattle.kilim_type_spec.specs.Typed.{declared, FlowsInto, all_assignable, Jumps, Here, goes_on, Typed}
+use Rattle.kilim_weave_spec.specs.Woven.{pausable_callee}
 use Rattle.kilim_weave_laws.specs.woven_types.Same.{Programs}
 use Rattle.kilim_weave_laws.proofs.woven_types.Moved.{passed, passes}
 use Rattle.kilim_weave_laws.proofs.woven_types.Rows.{Settled}
@@ -163,7 +164,7 @@ module _ (P W : Program) (m : Method) (assigns : (a b : VType) → assignable P 
       let p = and_parts (assignable P s d) (all_assignable P ss ds) h in
       and_from (assignable W s d) (all_assignable W ss ds) (assigns s d p.0) (all_assignable_kept ss ds p.1)
 
-  flows_same : (f d : Types) → FlowsInto P f d → FlowsInto W f d
+  pub flows_same : (f d : Types) → FlowsInto P f d → FlowsInto W f d
   flows_same f d h = record { locals = λ j. assigns (peek f.locals j) (peek d.locals j) (h.locals j); stack = all_assignable_kept f.stack d.stack h.stack; unset = h.unset }
 
   jumps_same : (g : Types) (ts : List ℕ) → Jumps P m g ts → Jumps W m g ts
@@ -176,13 +177,17 @@ module _ (P W : Program) (m : Method) (assigns : (a b : VType) → assignable P 
   here_same (Some g) None f h = h
   here_same None None f h = h
 
+  -- an instruction that calls nothing pausable leaves the same
+  pub step_same : (q : ℕ) (i : Instr) (f g : Types) → pausable_callee P i ≡ None → type_step P m q i f ≡ Ok g → type_step W m q i f ≡ Ok g
+  step_same q i f g none e = by_row_kept q (row W m i) f g (ap (λ r. by_row P m q r f) (row_same i (settled P m q i f g none e)) ∙ e)
+
   pub unchanged : (es : List (ℕ × Instr)) (was : Option Types) → CallsNone P es → Typed P m was es → Typed W m was es
   unchanged [] was n t = t
   unchanged (e ∷ es) was n t = (
     t.0,
     here_same was (declared m e.0) t.0 t.1,
     t.2,
-    by_row_kept e.0 (row W m e.1) t.0 t.2 (ap (λ r. by_row P m e.0 r t.0) (row_same e.1 (settled P m e.0 e.1 t.0 t.2 n.0 t.3)) ∙ t.3),
+    step_same e.0 e.1 t.0 t.2 n.0 t.3,
     jumps_same t.2 (jump_targets e.1) t.4,
     unchanged es (goes_on (ends_path e.1) t.2) n.1 t.5,
   )

@@ -119,7 +119,7 @@ pub record WovenMethod (x : Plan) (w : Method) : Type 0 where
   pub params : w.params ≡ x.method.params ++ (fiber_ty x.program ∷ [])
   pub result : w.result ≡ x.method.result
   pub is_static : w.is_static ≡ x.method.is_static
-  -- no method has an exception table
+  -- no method that can pause has an exception table
   pub handlers : is_empty w.handlers ≡ true
   pub had_none : is_empty x.method.handlers ≡ true
 

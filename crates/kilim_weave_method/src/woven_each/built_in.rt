@@ -12,9 +12,9 @@ use kilim_units::{NoMemory, Seq, no_room};
 use std::alloc::Global;
 
 /// How many built-in classes and methods a plain program has.
-const PLAIN_CLASSES: usize = 7;
+const PLAIN_CLASSES: usize = 18;
 
-const PLAIN_METHODS: usize = 18;
+const PLAIN_METHODS: usize = 29;
 
 /// The most classes and methods of a program.
 const MOST: usize = 1 << 31;

@@ -1,6 +1,6 @@
 //! All methods of a program, woven.
 
-ghost use Rattle.std.specs.Prelude.{◌≡◌, ◌<◌, ◌+◌, ◌++◌, true, length, map, slice_get, take, option_copied, Some, IfOk, OnOk};
+ghost use Rattle.std.specs.Prelude.{◌≡◌, ◌<◌, ◌+◌, ◌++◌, true, length, map, slice_get, take, Some, IfOk, OnOk};
 ghost use Rattle.kilim_program.specs.BuiltIn.{fiber_methods};
 ghost use Rattle.kilim_program.specs.Names.{method_at};
 ghost use Rattle.kilim_type_spec.specs.Typed.{has_code};
@@ -17,7 +17,7 @@ use crate::woven_each::kept::keeps;
 use kilim_program::{Form, Method, MethodId, Program};
 use kilim_type_laws::typed_by_place;
 use kilim_type_spec::{Typed, VerifiedFrame};
-use kilim_units::{NoMemory, Seq, no_room, unmet};
+use kilim_units::{NoMemory, Seq, no_room};
 use std::alloc::Global;
 
 /// Methods, and which of their instructions count.
@@ -51,30 +51,27 @@ fn id_of(at: usize) -> Result<MethodId, NoMemory>
     }
 }
 
-fn frames_at(frames: &[Seq<VerifiedFrame>], at: usize) -> Option<&Seq<VerifiedFrame>>
-    ensures { option_copied result ≡ slice_get frames.now at }
+fn frames_at(frames: &[Seq<VerifiedFrame>], at: usize) -> &Seq<VerifiedFrame>
+    requires { at < length frames.now }
+    ensures { slice_get frames.now at ≡ Some result.now }
 {
-    frames.get(at)
+    &frames[at]
 }
 
-// The frames of a method. They are always there: that they aren't would be answered as want of memory.
+// The frames of a method: a typed program has a list for each.
 fn frames_of<'a>(
     program: &Program,
     frames: &'a [Seq<VerifiedFrame>],
     id: MethodId,
     method: &Method,
-) -> Result<&'a Seq<VerifiedFrame>, NoMemory>
+) -> &'a Seq<VerifiedFrame>
     requires typed { KeepsTyped (record { program = program.now; frames = frames.now }) }
     requires there { method_at program.now id ≡ Some method.now }
-    ensures { IfOk result (λ f. has_code method.now ≡ true → Listed program.now method.now f.now) }
+    ensures { has_code method.now ≡ true → Listed program.now method.now result.now }
 {
     typed_by_place();
     keeps(program);
-    match frames_at(frames, id.0 as usize) {
-        Some(found) => Ok(found),
-        // unmet: there is a list of frames for each method
-        None => Err(unmet()),
-    }
+    frames_at(frames, id.0 as usize)
 }
 
 // A method by its number.
@@ -89,7 +86,7 @@ fn woven_at(
     requires there { method_at program.now id ≡ Some method.now }
     ensures { IfOk result (λ r. IsWoven program.now method.now r.0 r.1) }
 {
-    let found = frames_of(program, frames, id, method)?;
+    let found = frames_of(program, frames, id, method);
     woven_each(alloc, program, found.as_slice(), id, method)
 }
 

@@ -13,8 +13,8 @@ put-requires-clause-gives c = put_given c.args.plain.now c.args.program.now c.ar
 pub put-requires-clause-made : goal.put-requires-clause-made
 put-requires-clause-made c = put_made c.args.limits.now (behind_at 0 c.args.body.now) c.args.native c.in-Box.mailbox c.args.first.now c.args.second.now c.in-Put.is c.in-Box.is c.requires.can.made
 
-pub returns : goal.returns
-returns c = record {
+pub returns-in-Box : goal.returns-in-Box
+returns-in-Box c = record {
   comes =
       λ set is-program.
       let l = behind_at 0 c.args.body.now in

@@ -1,7 +1,7 @@
 use Rattle.std.proofs.Common.{[], ◌∷◌, arith}
 use Rattle.kilim_fiber_steps.specs.records.natives.Natives.{meaning}
 use Rattle.kilim_fiber_body.specs.Body.{behind_at, operands_in}
-use Rattle.kilim_fiber_body.proofs.Asking.{args_same, come_by, made_few, told_more, told_none, told_one, told_two, with_args}
+use Rattle.kilim_fiber_body.proofs.Asking.{args_same, come_by, made_few, told_more, told_none, told_one, told_three, told_two, with_args}
 use Rattle.kilim_fiber_body.proofs.asks.ask_with.Goals as goal
 
 pub ask_of_none-requires-clause-can : goal.ask_of_none-requires-clause-can
@@ -50,6 +50,22 @@ returns-in-Two c = record {
   roomy = c.ask_of_any_two.ensures.roomy;
   counted = c.ask_of_any_two.ensures.counted;
   room = c.ask_of_any_two.ensures.room;
+}
+
+pub ask_of_three-requires-clause-can : goal.ask_of_three-requires-clause-can
+ask_of_three-requires-clause-can c =
+    with_args c.args.plain.now c.args.program.now c.args.limits.now c.args.body.now (operands_in c.args.body.now.frames) (c.in-Three.first ∷ c.in-Three.second ∷ c.in-Three.third ∷ []) (meaning c.args.native) (told_three (operands_in c.args.body.now.frames) c.args.operands.now c.in-Three.first c.in-Three.second c.in-Three.third c.in-Three.is c.requires.operands) c.requires.can
+
+pub returns-in-Three : goal.returns-in-Three
+returns-in-Three c = record {
+  comes =
+      λ set is-program is-limits.
+      come_by 0 c.ask_of_three.new.body c.ask_of_three.result _ _
+      (args_same set (behind_at 0 c.args.body.now) (meaning c.args.native) (operands_in c.args.body.now.frames) (c.in-Three.first ∷ c.in-Three.second ∷ c.in-Three.third ∷ []) (told_three (operands_in c.args.body.now.frames) c.args.operands.now c.in-Three.first c.in-Three.second c.in-Three.third c.in-Three.is c.requires.operands))
+      (c.ask_of_three.ensures.comes set is-program is-limits);
+  roomy = c.ask_of_three.ensures.roomy;
+  counted = c.ask_of_three.ensures.counted;
+  room = c.ask_of_three.ensures.room;
 }
 
 pub unreachable-requires : goal.unreachable-requires

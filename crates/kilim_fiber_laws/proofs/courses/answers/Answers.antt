@@ -44,7 +44,7 @@ natives_answer set typing wanted is of m p to q i l s l2 s2 args x b w heap c to
     let effect = table_fits set.program (facts_hold set.program is.keeps) narrows top.method of w.heap fits (wanted m) p to (typing m p) at.after l s i
     (record { wants = is.verified.wants m top.method top.there p (i, to) own; locals = top.locals; stack = top.stack; there = there }) (made_there top.method.code top.method.code_length p i to own)
     (is.verified.proper m top.method top.there p (i, to) own) at.step in
-    let native : NativeFits set.program top.method of (wanted m) (edges i to) at.after c args q l2 s2 heap = subst (λ (z : Effect). EffectFits set.program top.method of (wanted m) (edges i to) at.after z) mine effect in
+    let native : NativeFits set.program top.method of (wanted m) to l w.heap (edges i to) at.after c args q l2 s2 heap = subst (λ (z : Effect). EffectFits set.program top.method of (wanted m) to l w.heap (edges i to) at.after z) mine effect in
     let asked : (k : Method) × (method_at set.program c ≡ Some k) × AsksWell set.program w.heap k args =
     subst (λ (z : Effect). Asked set.program w.heap z) mine
     (rows set.program is.keeps is.form of w.heap fits top.method to l s there m top.there top.code p (typing m p) at.after i at.step

@@ -20,12 +20,13 @@ use Rattle.kilim_program.specs.declared.ty.Ty.{Ty}
 use Rattle.kilim_program.specs.declared.value.Value.{Value}
 use Rattle.kilim_program.specs.declared.value.Value.TheVariants.{Box, Fiber, Int, Long, Null, Ref, Text}
 use Rattle.kilim_program.specs.declared.verified.VType.TheVariants.{Object}
-use Rattle.kilim_program.specs.BuiltIn.{built_in_classes_in, built_in_methods_in, class_id, class_type}
+use Rattle.kilim_program.specs.BuiltIn.{built_in_classes_in, built_in_methods_in, class_id, class_type, exception_numbers}
 use Rattle.kilim_program.specs.Fits.{fits_type, is_named, type_assignable}
 use Rattle.kilim_program.specs.Keeps.{Keeps}
 use Rattle.kilim_program.specs.Kinds.{class_kind, is_message, is_value_class}
 use Rattle.kilim_program.specs.Names.{◌>>=◌, class_at, class_name, class_named, is_named_task, is_task, line_of, line_up_to, method_at}
 use Rattle.kilim_program.specs.Program.{Program}
+use Rattle.kilim_program.proofs.BuiltIns.{constructors_too}
 use Rattle.kilim_program.specs.Same.{is_constructor}
 use Rattle.kilim_lemmas.proofs.Lists.{get_right}
 use Rattle.kilim_lemmas.proofs.Texts.{text_is}
@@ -66,10 +67,10 @@ string_methods : (a b : ℕ) (c : Class) → slice_get (built_in_classes_in Plai
 string_methods a b c e = let s : _ ≡ c = some e in sym (ap (λ (x : Class). x.methods) s)
 
 all_built : (n : ℕ) → AllByRecursion (λ (m : Method). m.built_in ≡ true) (built_in_methods_in Plain n)
-all_built n = (refl, (refl, (refl, (refl, (refl, (refl, (refl, (refl, (refl, (refl, (refl, (refl, (refl, (refl, (refl, (refl, (refl, (refl, tt))))))))))))))))))
+all_built n = (refl, (refl, (refl, (refl, (refl, (refl, (refl, (refl, (refl, (refl, (refl, (refl, (refl, (refl, (refl, (refl, (refl, (refl, constructors_too (λ (m : Method). m.built_in ≡ true) n exception_numbers [] (λ c. refl) tt))))))))))))))))))
 
 all_bare : (n : ℕ) → AllByRecursion (λ (m : Method). has_code m ≡ false) (built_in_methods_in Plain n)
-all_bare n = (refl, (refl, (refl, (refl, (refl, (refl, (refl, (refl, (refl, (refl, (refl, (refl, (refl, (refl, (refl, (refl, (refl, (refl, tt))))))))))))))))))
+all_bare n = (refl, (refl, (refl, (refl, (refl, (refl, (refl, (refl, (refl, (refl, (refl, (refl, (refl, (refl, (refl, (refl, (refl, (refl, constructors_too (λ (m : Method). has_code m ≡ false) n exception_numbers [] (λ c. refl) tt))))))))))))))))))
 
 number_of : Base → ℕ
 number_of (base.Class c) = c.0

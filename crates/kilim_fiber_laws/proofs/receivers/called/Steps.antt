@@ -55,17 +55,17 @@ abbrev Enters : Program → Classes → Effect → Type 0
 Enters p of (Calls c args q l s h) = Entered p of c (self_of p c args)
 Enters p of e = Unit {0}
 
-enters_of : (p : Program) (of : Classes) (own : Method) (wanted : ℕ → ℕ → Bool) (reached : List ℕ) (g : Types) (e : Effect) → EffectFits p own of wanted reached g e → Enters p of e
-enters_of p of own wanted reached g (Calls c args q l s h) fits = record { callee = fits.callee; there = fits.there; args = args; takes = fits.arguments; self = refl }
-enters_of p of own wanted reached g (Goes q l s h) fits = tt
-enters_of p of own wanted reached g (Makes o q l s h) fits = tt
-enters_of p of own wanted reached g (Opens q l s h) fits = tt
-enters_of p of own wanted reached g (Asks c args q l s h) fits = tt
-enters_of p of own wanted reached g (Returns v h) fits = tt
-enters_of p of own wanted reached g (Raises why) fits = tt
-enters_of p of own wanted reached g (Throws object class why) fits = tt
-enters_of p of own wanted reached g (Ends why) fits = tt
-enters_of p of own wanted reached g Stuck fits = tt
+enters_of : (p : Program) (of : Classes) (own : Method) (wanted : ℕ → ℕ → Bool) (next : ℕ) (before : List Value) (now : Objects) (reached : List ℕ) (g : Types) (e : Effect) → EffectFits p own of wanted next before now reached g e → Enters p of e
+enters_of p of own wanted next before now reached g (Calls c args q l s h) fits = record { callee = fits.callee; there = fits.there; args = args; takes = fits.arguments; self = refl }
+enters_of p of own wanted next before now reached g (Goes q l s h) fits = tt
+enters_of p of own wanted next before now reached g (Makes o q l s h) fits = tt
+enters_of p of own wanted next before now reached g (Opens q l s h) fits = tt
+enters_of p of own wanted next before now reached g (Asks c args q l s h) fits = tt
+enters_of p of own wanted next before now reached g (Returns v h) fits = tt
+enters_of p of own wanted next before now reached g (Raises why) fits = tt
+enters_of p of own wanted next before now reached g (Throws object class why) fits = tt
+enters_of p of own wanted next before now reached g (Ends why) fits = tt
+enters_of p of own wanted next before now reached g Stuck fits = tt
 
 module _ (set : Setting) (run : IsRunOfAccepted set) where
   -- ---- with more classes of names
@@ -171,7 +171,7 @@ module _ (set : Setting) (run : IsRunOfAccepted set) where
         let own : fetched top.method.code top.method.code_length p ≡ Some (i, to) = ap (λ (o : Option Method). code_in o p) (sym top.there) ∙ f in
         let at = stands_at set.program top.method (typing_at set.program m) (v.typed m top.method top.there top.code) p i to own in
         subst (λ (e : Effect). Enters set.program of e) (ap (λ (o : Option Method). does set.program (own_in o) i to l s w.heap) (sym top.there))
-        (enters_of set.program of top.method (wants_all m) (edges i to) at.after (does set.program top.method i to l s w.heap)
+        (enters_of set.program of top.method (wants_all m) to l w.heap (edges i to) at.after (does set.program top.method i to l s w.heap)
         (table_fits set.program (facts_hold set.program run.keeps) narrows top.method of w.heap well.fits.fits.heap (wants_all m) p to (typing_at set.program m p) at.after l s i (record {
           wants = v.wants m top.method top.there p (i, to) own;
           locals = top.locals;

@@ -1,8 +1,6 @@
 -- Along its steps, the thread has done some deeds of a course of its own: each says the act that was done, where the deed that was to come
 -- may have said another.
 use Rattle.std.proofs.Common.{◌≡◌, ℕ, zero, suc, true, List, [], ◌∷◌, ◌++◌, Option, Some, None, refl, sym, ap, subst, ◌∙◌}
-use Rattle.kilim_program.specs.declared.names.MethodId.{MethodId}
-use Rattle.kilim_program.specs.declared.value.Value.{Value}
 use Rattle.kilim_run_journal.specs.declared.entry.Act.{Act}
 use Rattle.kilim_run_journal.specs.declared.entry.Act.TheVariants.{Bound, Empty, End, Print, Put, Start, Take, Wait}
 use Rattle.kilim_run_model.proofs.one_heap.Booking.{action_is, is_act}
@@ -11,7 +9,7 @@ use Rattle.kilim_run_state.specs.declared.cause.EndCause.{EndCause}
 use Rattle.kilim_run_state.specs.declared.value.Token.{Token}
 use Rattle.kilim_run_model.specs.declared.deed.Beginning.{Beginning}
 use Rattle.kilim_run_model.specs.declared.deed.Deed.{Deed}
-use Rattle.kilim_run_model.specs.Course.{Course, Done, IsLone, Moves, Stays, done_by, next_action}
+use Rattle.kilim_run_model.specs.Course.{Course, Done, IsLone, Moves, Stays, done_by}
 use Rattle.kilim_run_model.specs.Lone.{Lone, Next, next_move}
 use Rattle.kilim_run_model.specs.Lone as next
 use Rattle.kilim_run_model.specs.State.{Setting}
@@ -19,7 +17,7 @@ use Rattle.kilim_fiber_laws.proofs.courses.GoesOn.{done_again, follows_one, told
 use Rattle.kilim_fiber_spec.proofs.lone.Steps.{steps}
 use Rattle.kilim_run_machine.specs.Raising.{NoTables}
 use Rattle.kilim_fiber_spec.specs.lone.Law.{IsActed, IsAt, IsBehind, IsDone, IsLast, IsNext, IsWanted, lone_at, wanted}
-use Rattle.kilim_fiber_spec.specs.Acts.{Action, Astray, Finished, Lost, Over, Wants, World}
+use Rattle.kilim_fiber_spec.specs.Acts.{Action, Astray, Finished, Lost, Over, Wants, World, Apart}
 use Rattle.kilim_fiber_spec.specs.Thread.{Frame, Run, Stop, Thread, step}
 use Rattle.kilim_fiber_spec.specs.Thread as thread
 use Rattle.kilim_fiber_laws.proofs.receivers.states.Worlds.{Shows, WorldIs, step_shows}
@@ -92,7 +90,7 @@ module _ (set : Setting) (k : ℕ) (b : Beginning) (ds0 : List Deed) where
     pub world : w ≡ world_at k here (final ∷ []) (acts_of done [])
 
   abbrev pub Along : Thread → Type 0
-  Along (Run m p l s x below w) = (w.task ≡ k) × Held (lone_at m p l s below w) w.deeds w.acts
+  Along (Run m p l s x below w) = (w.task ≡ k) × (w.aside ≡ []) × Held (lone_at m p l s below w) w.deeds w.acts
   Along (Stop (Wants a w)) = Before a w
   Along (Stop (Finished why w)) = Ends why w
   Along (Stop Astray) = Unit {0}
@@ -105,10 +103,11 @@ module _ (set : Setting) (k : ℕ) (b : Beginning) (ds0 : List Deed) where
   shown o w t shows e = subst (λ (z : Thread). Shows w z) e shows
 
   module _ (l : Lone) (acts : List Act) where
-    moved : (after : Lone) → next_move set k l ≡ next.Goes after → (ds : List Deed) → Held l ds acts → (t : Thread) → IsAt after ds acts k t → Along t
+    moved : (after : Lone) → next_move set k l ≡ next.Goes after → (ds : List Deed) → Held l ds acts → (t : Thread) → IsAt after ds acts k [] t → Along t
     moved after e ds held (Stop o) is = absurd is
     moved after e ds held (Run m p ls s x below w) is = (
       is.3,
+      is.4,
       record {
         done = held.done;
         were = held.were;
@@ -120,13 +119,14 @@ module _ (set : Setting) (k : ℕ) (b : Beginning) (ds0 : List Deed) where
     )
 
     -- a deed that is no end
-    acted_on : (n : Next) → next_move set k l ≡ n → is_act n ≡ true → (d : Deed) (rest : List Deed) → Held l (d ∷ rest) acts → (y : Done) → done_by set n d ≡ Some y → (t : Thread) → IsAt y.after rest (y.act ∷ acts) k t → Along t
+    acted_on : (n : Next) → next_move set k l ≡ n → is_act n ≡ true → (d : Deed) (rest : List Deed) → Held l (d ∷ rest) acts → (y : Done) → done_by set n d ≡ Some y → (t : Thread) → IsAt y.after rest (y.act ∷ acts) k [] t → Along t
     acted_on n e is d rest held y did (Stop o) at = absurd at
     acted_on n e is d rest held y did (Run m p ls s x below w) at =
         let now = ap (λ (z : Next). done_by set z (told d y)) (action_is set k held.of.last l n held.of.quiet e is) ∙ done_again set n d y did in
         let more : IsLone set k (course (held.done ++ told d y ∷ [])) y.after =
         record { first = held.of.is.first; begins = held.of.is.begins; follows = follows_one set k held.of.is.first held.of.last y.after held.done (told d y) held.of.is.follows now } in (
           at.3,
+          at.4,
           record {
             done = held.done ++ told d y ∷ [];
             were = held.were ++ d ∷ [];
@@ -155,17 +155,17 @@ module _ (set : Setting) (k : ℕ) (b : Beginning) (ds0 : List Deed) where
           world = shown (Finished why is.0) (world_at k l (d ∷ []) acts) t shows is.1 ∙ ap (λ (z : List Act). world_at k l (d ∷ []) z) held.acted;
         }) is.1
 
-    behind : (n : Next) → next_move set k l ≡ n → is_act n ≡ true → (d : Deed) (rest : List Deed) → Held l (d ∷ rest) acts → (y : Done) → done_by set n d ≡ Some y → (act : Act) → y.act ≡ act → (t : Thread) → Shows (world_at k l (d ∷ rest) acts) t → IsBehind act rest acts k y.after t → Along t
+    behind : (n : Next) → next_move set k l ≡ n → is_act n ≡ true → (d : Deed) (rest : List Deed) → Held l (d ∷ rest) acts → (y : Done) → done_by set n d ≡ Some y → (act : Act) → y.act ≡ act → (t : Thread) → Shows (world_at k l (d ∷ rest) acts) t → IsBehind act rest acts k [] y.after t → Along t
     behind n e is d rest held y did (End why) same t shows at = last_on n e d rest held y did why same t shows at
-    behind n e is d rest held y did (Put c j z) same t shows at = acted_on n e is d rest held y did t (subst (λ (a : Act). IsAt y.after rest (a ∷ acts) k t) (sym same) at)
-    behind n e is d rest held y did (Take c j) same t shows at = acted_on n e is d rest held y did t (subst (λ (a : Act). IsAt y.after rest (a ∷ acts) k t) (sym same) at)
-    behind n e is d rest held y did (Empty c) same t shows at = acted_on n e is d rest held y did t (subst (λ (a : Act). IsAt y.after rest (a ∷ acts) k t) (sym same) at)
-    behind n e is d rest held y did (Start j z) same t shows at = acted_on n e is d rest held y did t (subst (λ (a : Act). IsAt y.after rest (a ∷ acts) k t) (sym same) at)
-    behind n e is d rest held y did (Print z) same t shows at = acted_on n e is d rest held y did t (subst (λ (a : Act). IsAt y.after rest (a ∷ acts) k t) (sym same) at)
-    behind n e is d rest held y did (Wait c) same t shows at = acted_on n e is d rest held y did t (subst (λ (a : Act). IsAt y.after rest (a ∷ acts) k t) (sym same) at)
-    behind n e is d rest held y did (Bound c j) same t shows at = acted_on n e is d rest held y did t (subst (λ (a : Act). IsAt y.after rest (a ∷ acts) k t) (sym same) at)
+    behind n e is d rest held y did (Put c j z) same t shows at = acted_on n e is d rest held y did t (subst (λ (a : Act). IsAt y.after rest (a ∷ acts) k [] t) (sym same) at)
+    behind n e is d rest held y did (Take c j) same t shows at = acted_on n e is d rest held y did t (subst (λ (a : Act). IsAt y.after rest (a ∷ acts) k [] t) (sym same) at)
+    behind n e is d rest held y did (Empty c) same t shows at = acted_on n e is d rest held y did t (subst (λ (a : Act). IsAt y.after rest (a ∷ acts) k [] t) (sym same) at)
+    behind n e is d rest held y did (Start j z) same t shows at = acted_on n e is d rest held y did t (subst (λ (a : Act). IsAt y.after rest (a ∷ acts) k [] t) (sym same) at)
+    behind n e is d rest held y did (Print z) same t shows at = acted_on n e is d rest held y did t (subst (λ (a : Act). IsAt y.after rest (a ∷ acts) k [] t) (sym same) at)
+    behind n e is d rest held y did (Wait c) same t shows at = acted_on n e is d rest held y did t (subst (λ (a : Act). IsAt y.after rest (a ∷ acts) k [] t) (sym same) at)
+    behind n e is d rest held y did (Bound c j) same t shows at = acted_on n e is d rest held y did t (subst (λ (a : Act). IsAt y.after rest (a ∷ acts) k [] t) (sym same) at)
 
-    done_on : (n : Next) → next_move set k l ≡ n → is_act n ≡ true → (d : Deed) (rest : List Deed) → Held l (d ∷ rest) acts → (o : Option Done) → done_by set n d ≡ o → (t : Thread) → Shows (world_at k l (d ∷ rest) acts) t → IsDone rest acts k o t → Along t
+    done_on : (n : Next) → next_move set k l ≡ n → is_act n ≡ true → (d : Deed) (rest : List Deed) → Held l (d ∷ rest) acts → (o : Option Done) → done_by set n d ≡ o → (t : Thread) → Shows (world_at k l (d ∷ rest) acts) t → IsDone rest acts k [] o t → Along t
     done_on n e is d rest held None did t shows at = over Astray t tt at
     done_on n e is d rest held (Some y) did t shows at = behind n e is d rest held y did y.act refl t shows at
 
@@ -186,12 +186,12 @@ module _ (set : Setting) (k : ℕ) (b : Beginning) (ds0 : List Deed) where
           };
         }) is.1
 
-    acts_at : (n : Next) → next_move set k l ≡ n → is_act n ≡ true → (ds : List Deed) → Held l ds acts → (t : Thread) → Shows (world_at k l ds acts) t → IsActed set ds acts k n t → Along t
+    acts_at : (n : Next) → next_move set k l ≡ n → is_act n ≡ true → (ds : List Deed) → Held l ds acts → (t : Thread) → Shows (world_at k l ds acts) t → IsActed set ds acts k [] n t → Along t
     acts_at n e is [] held t shows at = wanted_on n e held (wanted n) refl t shows at
     acts_at n e is (d ∷ rest) held t shows at = done_on n e is d rest held (done_by set n d) refl t shows at
 
     -- what comes next is along, too
-    pub next_along : (ds : List Deed) → Held l ds acts → (n : Next) → next_move set k l ≡ n → (t : Thread) → Shows (world_at k l ds acts) t → IsNext set ds acts k n t → Along t
+    pub next_along : (ds : List Deed) → Held l ds acts → (n : Next) → next_move set k l ≡ n → (t : Thread) → Shows (world_at k l ds acts) t → IsNext set ds acts k [] n t → Along t
     next_along ds held (next.Goes after) e t shows at = moved after e ds held t at
     next_along ds held (next.Puts box root shape after) e t shows at = acts_at (next.Puts box root shape after) e refl ds held t shows at
     next_along ds held (next.PutWaits box root shape after) e t shows at = acts_at (next.PutWaits box root shape after) e refl ds held t shows at
@@ -206,9 +206,11 @@ module _ (set : Setting) (k : ℕ) (b : Beginning) (ds0 : List Deed) where
   step_along : NoTables set.program → (t : Thread) → Along t → Along (step set t)
   step_along none (Stop o) along = along
   step_along none (Run m p l s x below w) along =
-      next_along (lone_at m p l s below w) w.acts w.deeds along.1 (next_move set k (lone_at m p l s below w)) refl (step set (Run m p l s x below w))
-      (subst (λ (j : ℕ). Shows (world_at j (lone_at m p l s below w) w.deeds w.acts) (step set (Run m p l s x below w))) along.0 (step_shows set m p l s x below w))
-      (subst (λ (j : ℕ). IsNext set w.deeds w.acts j (next_move set j (lone_at m p l s below w)) (step set (Run m p l s x below w))) along.0 (steps set none m p l s x below w))
+      next_along (lone_at m p l s below w) w.acts w.deeds along.2 (next_move set k (lone_at m p l s below w)) refl (step set (Run m p l s x below w))
+      (subst (λ (j : ℕ). Shows (world_at j (lone_at m p l s below w) w.deeds w.acts) (step set (Run m p l s x below w))) along.0
+      (subst (λ (v : World). Shows v (step set (Run m p l s x below w))) (ap (λ (z : List Apart). record w { aside = z }) along.1) (step_shows set m p l s x below w)))
+      (subst (λ (j : ℕ). IsNext set w.deeds w.acts j [] (next_move set j (lone_at m p l s below w)) (step set (Run m p l s x below w))) along.0
+      (subst (λ (z : List Apart). IsNext set w.deeds w.acts w.task z (next_move set w.task (lone_at m p l s below w)) (step set (Run m p l s x below w))) along.1 (steps set none m p l s x below w)))
 
   pub steps_along : NoTables set.program → (n : ℕ) (t : Thread) → Along t → Along (thread.steps set n t)
   steps_along none zero t along = along

@@ -1,14 +1,12 @@
 -- Where the thread of a course goes, the thread beside the woven machine comes, with the deeds of the course to come.
-use Rattle.std.proofs.Common.{◌≡◌, ℕ, zero, suc, Bool, true, false, cond, List, [], ◌∷◌, ◌++◌, Option, Some, None, refl, sym, ap, subst, ◌∙◌}
+use Rattle.std.proofs.Common.{◌≡◌, ℕ, zero, suc, Bool, true, false, List, [], ◌∷◌, ◌++◌, Option, Some, refl, sym, ap, subst, ◌∙◌}
 use Rattle.std.proofs.lemmas.Bool.{false≢true}
 use Rattle.std.proofs.lemmas.Option.{none-some}
 use Rattle.kilim_program.specs.declared.names.MethodId.{MethodId}
 use Rattle.kilim_program.specs.declared.value.Value.{Value}
 use Rattle.kilim_run_journal.specs.declared.entry.Act.{Act}
 use Rattle.kilim_run_journal.specs.declared.entry.Act.TheVariants.{Bound, Empty, End, Print, Put, Start, Take, Wait}
-use Rattle.kilim_run_model.proofs.one_heap.Booking.{action_is, is_act}
 use Rattle.kilim_run_model.proofs.one_heap.Ends.{ended_is, is_ended, still}
-use Rattle.kilim_run_model.specs.one_heap.Booked.{IsOf}
 use Rattle.kilim_run_model.specs.declared.deed.Beginning.{Beginning}
 use Rattle.kilim_run_model.specs.declared.deed.Deed.{Deed}
 use Rattle.kilim_run_model.specs.Course.{Course, Done, Follows, IsLone, Moves, Quiet, Stays, done_by, ends_in, is_end, next_action, next_or, next_within}
@@ -19,9 +17,8 @@ use Rattle.kilim_fiber_laws.proofs.courses.GoesOn.{follows_one}
 use Rattle.kilim_fiber_spec.proofs.lone.Steps as rows
 use Rattle.kilim_run_machine.specs.Raising.{NoTables}
 use Rattle.kilim_fiber_spec.specs.lone.Law.{IsActed, IsAt, IsBehind, IsDone, IsNext, lone_at}
-use Rattle.kilim_fiber_spec.specs.Acts.{World}
+use Rattle.kilim_fiber_spec.specs.Acts.{World, Apart}
 use Rattle.kilim_fiber_spec.specs.Thread.{Frame, Run, Stop, Thread, step, steps}
-use Rattle.kilim_fiber_laws.proofs.receivers.states.Along.{append_append}
 use Rattle.kilim_fiber_laws.proofs.receivers.states.Worlds.{Shows, step_shows}
 use Rattle.kilim_fiber_laws.specs.receivers.states.Law.{acts_of, world_at}
 
@@ -90,29 +87,31 @@ module _ (set : Setting) (k : ℕ) where
   -- after so many steps of the thread there stands what comes next after `l`
   pub record Lands (l : Lone) (ds : List Deed) (acts : List Act) (t : Thread) : Type 0 where
     pub at : ℕ
-    pub next : IsNext set ds acts k (next_move set k l) (steps set at t)
+    pub next : IsNext set ds acts k [] (next_move set k l) (steps set at t)
     pub world : Shows (world_at k l ds acts) (steps set at t)
 
-  lands_run : NoTables set.program → (l : Lone) (ds : List Deed) (acts : List Act) (t : Thread) (n : ℕ) (m : MethodId) (p : ℕ) (ls s : List Value) (x : Value) (b : List Frame) (w : World) → steps set n t ≡ Run m p ls s x b w → IsAt l ds acts k (Run m p ls s x b w) → Lands l ds acts t
+  lands_run : NoTables set.program → (l : Lone) (ds : List Deed) (acts : List Act) (t : Thread) (n : ℕ) (m : MethodId) (p : ℕ) (ls s : List Value) (x : Value) (b : List Frame) (w : World) → steps set n t ≡ Run m p ls s x b w → IsAt l ds acts k [] (Run m p ls s x b w) → Lands l ds acts t
   lands_run none l ds acts t n m p ls s x b w e is =
       let now : steps set (suc n) t ≡ step set (Run m p ls s x b w) = one_step set n t ∙ ap (step set) e in
       let world : w ≡ world_at k l ds acts =
-      ap (λ (z : ℕ). world_at z (lone_at m p ls s b w) w.deeds w.acts) is.3 ∙ ap (λ (z : Lone). world_at k z w.deeds w.acts) is.0 ∙ ap (λ (z : List Deed). world_at k l z w.acts) is.1 ∙ ap (λ (z : List Act). world_at k l ds z) is.2 in
+      ap (λ (z : List Apart). record w { aside = z }) is.4
+      ∙ ap (λ (z : ℕ). world_at z (lone_at m p ls s b w) w.deeds w.acts) is.3 ∙ ap (λ (z : Lone). world_at k z w.deeds w.acts) is.0 ∙ ap (λ (z : List Deed). world_at k l z w.acts) is.1 ∙ ap (λ (z : List Act). world_at k l ds z) is.2 in
       record {
         at = suc n;
         next =
-            subst (λ (z : Thread). IsNext set ds acts k (next_move set k l) z) (sym now)
-            (subst (λ (z : Lone). IsNext set ds acts k (next_move set k z) (step set (Run m p ls s x b w))) is.0
-            (subst (λ (z : List Deed). IsNext set z acts k (next_move set k (lone_at m p ls s b w)) (step set (Run m p ls s x b w))) is.1
-            (subst (λ (z : List Act). IsNext set w.deeds z k (next_move set k (lone_at m p ls s b w)) (step set (Run m p ls s x b w))) is.2
-            (subst (λ (z : ℕ). IsNext set w.deeds w.acts z (next_move set z (lone_at m p ls s b w)) (step set (Run m p ls s x b w))) is.3 (rows.steps set none m p ls s x b w)))));
+            subst (λ (z : Thread). IsNext set ds acts k [] (next_move set k l) z) (sym now)
+            (subst (λ (z : Lone). IsNext set ds acts k [] (next_move set k z) (step set (Run m p ls s x b w))) is.0
+            (subst (λ (z : List Deed). IsNext set z acts k [] (next_move set k (lone_at m p ls s b w)) (step set (Run m p ls s x b w))) is.1
+            (subst (λ (z : List Act). IsNext set w.deeds z k [] (next_move set k (lone_at m p ls s b w)) (step set (Run m p ls s x b w))) is.2
+            (subst (λ (z : ℕ). IsNext set w.deeds w.acts z [] (next_move set z (lone_at m p ls s b w)) (step set (Run m p ls s x b w))) is.3
+            (subst (λ (z : List Apart). IsNext set w.deeds w.acts w.task z (next_move set w.task (lone_at m p ls s b w)) (step set (Run m p ls s x b w))) is.4 (rows.steps set none m p ls s x b w))))));
         world = subst (λ (z : Thread). Shows (world_at k l ds acts) z) (sym now) (subst (λ (v : World). Shows v (step set (Run m p ls s x b w))) world (step_shows set m p ls s x b w));
       }
 
-  pub lands_at : NoTables set.program → (l : Lone) (ds : List Deed) (acts : List Act) (t : Thread) (n : ℕ) → IsAt l ds acts k (steps set n t) → Lands l ds acts t
+  pub lands_at : NoTables set.program → (l : Lone) (ds : List Deed) (acts : List Act) (t : Thread) (n : ℕ) → IsAt l ds acts k [] (steps set n t) → Lands l ds acts t
   lands_at none l ds acts t n is = by (steps set n t) refl is
     where
-      by : (u : Thread) → steps set n t ≡ u → IsAt l ds acts k u → Lands l ds acts t
+      by : (u : Thread) → steps set n t ≡ u → IsAt l ds acts k [] u → Lands l ds acts t
       by (Run m p ls s x b w) e is = lands_run none l ds acts t n m p ls s x b w e is
       by (Stop o) e is = absurd is
 
@@ -120,10 +119,10 @@ module _ (set : Setting) (k : ℕ) where
   lands_quiet none a c ds acts t (Stays e) lands = subst (λ (z : Lone). Lands z ds acts t) e lands
   lands_quiet none a c ds acts t (Moves b q goes) lands =
       let there = lands_quiet none a b ds acts t q lands in
-      lands_at none c ds acts t there.at (subst (λ (n : Next). IsNext set ds acts k n (steps set there.at t)) goes there.next)
+      lands_at none c ds acts t there.at (subst (λ (n : Next). IsNext set ds acts k [] n (steps set there.at t)) goes there.next)
 
   -- what a deed does
-  pub next_acted : (n : Next) → is_action n ≡ true → (ds : List Deed) (acts : List Act) (t : Thread) → IsNext set ds acts k n t → IsActed set ds acts k n t
+  pub next_acted : (n : Next) → is_action n ≡ true → (ds : List Deed) (acts : List Act) (t : Thread) → IsNext set ds acts k [] n t → IsActed set ds acts k [] n t
   next_acted (next.Goes after) e ds acts t is = absurd (false≢true e)
   next_acted (next.Puts box root shape after) e ds acts t is = is
   next_acted (next.PutWaits box root shape after) e ds acts t is = is
@@ -147,7 +146,7 @@ module _ (set : Setting) (k : ℕ) where
   deed_acts (next.Ends why after) d y e = refl
   deed_acts next.Stands d y e = absurd (none-some y e)
 
-  behind_at : (act : Act) → is_end act ≡ false → (ds : List Deed) (acts : List Act) (l : Lone) (t : Thread) → IsBehind act ds acts k l t → IsAt l ds (act ∷ acts) k t
+  behind_at : (act : Act) → is_end act ≡ false → (ds : List Deed) (acts : List Act) (l : Lone) (t : Thread) → IsBehind act ds acts k [] l t → IsAt l ds (act ∷ acts) k [] t
   behind_at (Put c j z) e ds acts l t is = is
   behind_at (Take c j) e ds acts l t is = is
   behind_at (Empty c) e ds acts l t is = is
@@ -158,9 +157,9 @@ module _ (set : Setting) (k : ℕ) where
   behind_at (Bound c j) e ds acts l t is = is
 
   -- the thread does that deed next
-  pub does_deed : (here : Lone) (d : Deed) (rest : List Deed) (acts : List Act) (t : Thread) → (lands : Lands here (d ∷ rest) acts t) → (y : Done) → done_by set (next_move set k here) d ≡ Some y → IsBehind y.act rest acts k y.after (steps set lands.at t)
+  pub does_deed : (here : Lone) (d : Deed) (rest : List Deed) (acts : List Act) (t : Thread) → (lands : Lands here (d ∷ rest) acts t) → (y : Done) → done_by set (next_move set k here) d ≡ Some y → IsBehind y.act rest acts k [] y.after (steps set lands.at t)
   does_deed here d rest acts t lands y did =
-      subst (λ (o : Option Done). IsDone rest acts k o (steps set lands.at t)) did
+      subst (λ (o : Option Done). IsDone rest acts k [] o (steps set lands.at t)) did
       (next_acted (next_move set k here) (deed_acts (next_move set k here) d y did) (d ∷ rest) acts (steps set lands.at t) lands.next)
 
   -- nothing comes behind an end

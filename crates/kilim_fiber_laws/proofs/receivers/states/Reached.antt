@@ -1,15 +1,15 @@
 -- Where the thread of a course is there, it has ended by its last deed, or comes to its next action.
-use Rattle.std.proofs.Common.{◌≡◌, ◌⊎◌, inl, inr, ℕ, zero, suc, Bool, true, false, List, [], ◌∷◌, ◌++◌, Option, Some, None, refl, sym, ap, subst, ◌∙◌}
+use Rattle.std.proofs.Common.{◌≡◌, ◌⊎◌, inl, inr, ℕ, zero, suc, Bool, true, false, List, [], ◌∷◌, ◌++◌, Option, Some, refl, sym, ap, subst, ◌∙◌}
 use Rattle.std.proofs.lemmas.Bool.{false≢true}
 use Rattle.kilim_run_journal.specs.declared.entry.Act.{Act}
 use Rattle.kilim_run_journal.specs.declared.entry.Act.TheVariants.{End}
 use Rattle.kilim_run_model.proofs.one_heap.Ends.{ended_is, is_ended}
 use Rattle.kilim_run_model.specs.one_heap.Booked.{IsOf}
 use Rattle.kilim_run_state.specs.declared.cause.EndCause.{EndCause}
-use Rattle.kilim_run_model.proofs.Alone.{AreLeft, all_left, none_left, one_less}
+use Rattle.kilim_run_model.proofs.Alone.{AreLeft, none_left, one_less}
 use Rattle.kilim_run_model.specs.declared.deed.Beginning.{Beginning}
 use Rattle.kilim_run_model.specs.declared.deed.Deed.{Deed}
-use Rattle.kilim_run_model.specs.Course.{Done, Follows, IsLone, Moves, Stays, done_by, is_end, next_action}
+use Rattle.kilim_run_model.specs.Course.{Follows, IsLone, Moves, Stays, done_by, is_end, next_action}
 use Rattle.kilim_run_model.specs.Lone.{Lone, Next, next_move}
 use Rattle.kilim_run_model.specs.Lone as next
 use Rattle.kilim_run_model.specs.State.{Setting}
@@ -19,7 +19,7 @@ use Rattle.kilim_fiber_spec.specs.Acts.{Action, Lost, World}
 use Rattle.kilim_fiber_spec.specs.Thread.{Stop, Thread, steps}
 use Rattle.kilim_run_machine.specs.Raising.{NoTables}
 use Rattle.kilim_fiber_laws.proofs.receivers.states.Along.{append_append, append_none}
-use Rattle.kilim_fiber_laws.proofs.receivers.states.Lands.{Acting, Lands, acts_next, course, ends_on, lands_quiet, none_behind}
+use Rattle.kilim_fiber_laws.proofs.receivers.states.Lands.{Lands, acts_next, course, ends_on, lands_quiet, none_behind}
 use Rattle.kilim_fiber_laws.specs.receivers.states.Law.{EndsBy, StandsBefore, acts_of, world_at}
 
 module _ (set : Setting) (k : ℕ) (b : Beginning) where
@@ -107,7 +107,7 @@ module _ (set : Setting) (k : ℕ) (b : Beginning) where
     by_next l of lands (next.Starts root shape after) e go = stands l of (next.Starts root shape after) e _ _ refl
     by_next l of lands (next.Prints token after) e go = stands l of (next.Prints token after) e _ _ refl
     by_next l of lands (next.Ends why after) e go = stands l of (next.Ends why after) e _ _ refl
-    by_next l of lands next.Stands e go = inl (lands.at, subst (λ (x : Next). IsNext set [] (acts_of ds []) k x (steps set lands.at t)) e lands.next)
+    by_next l of lands next.Stands e go = inl (lands.at, subst (λ (x : Next). IsNext set [] (acts_of ds []) k [] x (steps set lands.at t)) e lands.next)
 
     pub run_on : NoTables set.program → (n : ℕ) (l : Lone) → AreLeft set.limits.steps n l.thread → IsOf set k (course set k b ds) l → Lands set k l [] (acts_of ds []) t → Reaches
     unfolding next_move

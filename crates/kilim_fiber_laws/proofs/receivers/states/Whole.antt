@@ -45,19 +45,19 @@ use Rattle.kilim_fiber_laws.specs.receivers.states.Law.{EndsBy, FollowsCourse, S
 module _ (set : Setting) (k : ℕ) (ds : List Deed) where
   -- its thread stands so; or, where it has no frame, what comes next
   abbrev Begins : Lone → Thread → Type 0
-  Begins l t = (IsAt l ds [] k t) ⊎ ((IsNext set ds [] k (next_move set k l) t) × Shows (world_at k l ds []) t)
+  Begins l t = (IsAt l ds [] k [] t) ⊎ ((IsNext set ds [] k [] (next_move set k l) t) × Shows (world_at k l ds []) t)
 
-  ends_next : (w : World) (l : Lone) (why : EndCause) → w.deeds ≡ ds → IsActed set ds [] k (next.Ends why l) (ending set w Stop why)
-  ends_next w l why e = subst (λ (z : List Deed). IsActed set ds [] k (next.Ends why l) (elim z [ [] ↦ Stop (Wants (action.Ends why) w) | d ∷ rest ↦ last set w Stop why rest ])) (sym e) (by ds)
+  ends_next : (w : World) (l : Lone) (why : EndCause) → w.deeds ≡ ds → IsActed set ds [] k [] (next.Ends why l) (ending set w Stop why)
+  ends_next w l why e = subst (λ (z : List Deed). IsActed set ds [] k [] (next.Ends why l) (elim z [ [] ↦ Stop (Wants (action.Ends why) w) | d ∷ rest ↦ last set w Stop why rest ])) (sym e) (by ds)
     where
-      by : (ds : List Deed) → IsActed set ds [] k (next.Ends why l) (elim ds [ [] ↦ Stop (Wants (action.Ends why) w) | d ∷ rest ↦ last set w Stop why rest ])
+      by : (ds : List Deed) → IsActed set ds [] k [] (next.Ends why l) (elim ds [ [] ↦ Stop (Wants (action.Ends why) w) | d ∷ rest ↦ last set w Stop why rest ])
       by [] = (w, refl, tt)
       by (d ∷ []) = (w, refl)
       by (d ∷ e ∷ rest) = refl
 
   -- no frame: spent, or done
   no_frame : (heap : Objects) (n : ℕ) → let l : Lone = record { heap = heap; next = n; thread = Alive [] 0 0; kept = None } in
-      IsNext set ds [] k (next_move set k l) (spending set (world_at k l ds []) Stop (ending set (world_at k l ds []) Stop cause.Done)) × Shows (world_at k l ds []) (spending set (world_at k l ds []) Stop (ending set (world_at k l ds []) Stop cause.Done))
+      IsNext set ds [] k [] (next_move set k l) (spending set (world_at k l ds []) Stop (ending set (world_at k l ds []) Stop cause.Done)) × Shows (world_at k l ds []) (spending set (world_at k l ds []) Stop (ending set (world_at k l ds []) Stop cause.Done))
   unfolding next_move
   no_frame heap n = by (nat_le set.limits.steps 0)
     where
@@ -67,7 +67,7 @@ module _ (set : Setting) (k : ℕ) (ds : List Deed) where
       w : World
       w = world_at k l ds []
 
-      by : (z : Bool) → IsNext set ds [] k (cond z (next.Ends cause.Spent (ended l cause.Spent)) (next.Ends cause.Done (ended l cause.Done))) (cond z (ending set w Stop cause.Spent) (ending set w Stop cause.Done)) × Shows w (cond z (ending set w Stop cause.Spent) (ending set w Stop cause.Done))
+      by : (z : Bool) → IsNext set ds [] k [] (cond z (next.Ends cause.Spent (ended l cause.Spent)) (next.Ends cause.Done (ended l cause.Done))) (cond z (ending set w Stop cause.Spent) (ending set w Stop cause.Done)) × Shows w (cond z (ending set w Stop cause.Spent) (ending set w Stop cause.Done))
       by true = (ends_next w (ended l cause.Spent) cause.Spent refl, worlds.ended set w cause.Spent)
       by false = (ends_next w (ended l cause.Done) cause.Done refl, worlds.ended set w cause.Done)
 
@@ -78,7 +78,7 @@ module _ (set : Setting) (k : ℕ) (ds : List Deed) where
       by : (z : Bool) → lone_in heap n None (Some (cond z [] (entered set.program c (Ref 0 ∷ []) ∷ []))) ≡ Some l
           → Begins l (cond z (spending set (world_at k l ds []) Stop (ending set (world_at k l ds []) Stop cause.Done)) (Run c 0 (entered set.program c (Ref 0 ∷ [])).locals [] (Ref 0) [] (world_at k l ds [])))
       by true e = subst (λ (z : Lone). Begins z (spending set (world_at k z ds []) Stop (ending set (world_at k z ds []) Stop cause.Done))) (same_Some _ l e) (inr (no_frame heap n))
-      by false e = subst (λ (z : Lone). Begins z (Run c 0 (entered set.program c (Ref 0 ∷ [])).locals [] (Ref 0) [] (world_at k z ds []))) (same_Some _ l e) (inl (refl, refl, refl, refl))
+      by false e = subst (λ (z : Lone). Begins z (Run c 0 (entered set.program c (Ref 0 ∷ [])).locals [] (Ref 0) [] (world_at k z ds []))) (same_Some _ l e) (inl (refl, refl, refl, refl, refl))
 
   starts_on : (heap : Objects) (n : ℕ) (o : Option MethodId) (l : Lone) → lone_in heap n None (begun_on set.program o 0) ≡ Some l → Begins l (started set 0 (world_at k l ds []) o)
   starts_on heap n None l e = absurd (none-some l e)
@@ -95,16 +95,16 @@ module _ (set : Setting) (k : ℕ) (ds : List Deed) where
       subst (λ (h : Objects). Begins l (started set 0 (world_at k l ds []) (get h 0 >>= λ (object : Object). class_of object.class.base >>= λ c. execute_of set.program c))) (sym (heap_is heap (length objects) (execute_frames set.program heap 0) l e))
       (starts_on heap (length objects) (get heap 0 >>= λ (object : Object). class_of object.class.base >>= λ c. execute_of set.program c) l e)
 
-  constructs_in : (heap : Objects) (c : MethodId) (o : Option Method) → is_own_constructor o ≡ true → (l : Lone) → lone_in heap 1 (Some 0) (begun_in set.program c 0 o) ≡ Some l → IsAt l ds [] k (constructing set (world_at k l ds []) (Some c))
+  constructs_in : (heap : Objects) (c : MethodId) (o : Option Method) → is_own_constructor o ≡ true → (l : Lone) → lone_in heap 1 (Some 0) (begun_in set.program c 0 o) ≡ Some l → IsAt l ds [] k [] (constructing set (world_at k l ds []) (Some c))
   constructs_in heap c None own l e = absurd (none-some l e)
   constructs_in heap c (Some method) own l e = by method.is_static method.built_in own e
     where
-      by : (s z : Bool) → (not s && not z) ≡ true → lone_in heap 1 (Some 0) (Some (cond z [] (entered set.program c (Ref 0 ∷ []) ∷ []))) ≡ Some l → IsAt l ds [] k (constructing set (world_at k l ds []) (Some c))
-      by false false own e = subst (λ (z : Lone). IsAt z ds [] k (constructing set (world_at k z ds []) (Some c))) (same_Some _ l e) (refl, refl, refl, refl)
+      by : (s z : Bool) → (not s && not z) ≡ true → lone_in heap 1 (Some 0) (Some (cond z [] (entered set.program c (Ref 0 ∷ []) ∷ []))) ≡ Some l → IsAt l ds [] k [] (constructing set (world_at k l ds []) (Some c))
+      by false false own e = subst (λ (z : Lone). IsAt z ds [] k [] (constructing set (world_at k z ds []) (Some c))) (same_Some _ l e) (refl, refl, refl, refl, refl)
       by false true own e = absurd (false≢true own)
       by true z own e = absurd (false≢true own)
 
-  pub constructs : (heap : Objects) (o : Option MethodId) → is_own_constructor (o >>= method_at set.program) ≡ true → (l : Lone) → lone_in heap 1 (Some 0) (begun_on set.program o 0) ≡ Some l → IsAt l ds [] k (constructing set (world_at k l ds []) o)
+  pub constructs : (heap : Objects) (o : Option MethodId) → is_own_constructor (o >>= method_at set.program) ≡ true → (l : Lone) → lone_in heap 1 (Some 0) (begun_on set.program o 0) ≡ Some l → IsAt l ds [] k [] (constructing set (world_at k l ds []) o)
   constructs heap None own l e = absurd (none-some l e)
   constructs heap (Some c) own l e = constructs_in heap c (method_at set.program c) own l e
 
@@ -129,6 +129,7 @@ module _ (set : Setting) (k : ℕ) (b : Beginning) (ds : List Deed) (l : Lone) (
   along_first : (t : Thread) → Begins set k ds l t → Along set k b ds t
   along_first (Run m p ls s x below w) (inl is) = (
     is.3,
+    is.4,
     subst (λ (z : List _). Held set k b ds (lone_at m p ls s below w) w.deeds z) (sym is.2)
         (subst (λ (z : List Deed). Held set k b ds (lone_at m p ls s below w) z []) (sym is.1) (subst (λ (z : Lone). Held set k b ds z ds []) (sym is.0) held)),
   )
@@ -232,8 +233,8 @@ module _ (set : Setting) (k : ℕ) (b : Beginning) (ds : List Deed) (l : Lone) (
         lands : Lands set k s.here (s.final ∷ []) (acts_of s.before []) t
         lands = lands_in t (lands_first t first) s.before (s.final ∷ []) s.deeds s.of.last s.here s.of.is s.of.quiet goes
 
-        is : IsBehind (End why) [] (acts_of s.before []) k s.after (steps set lands.at t)
-        is = subst (λ (a : Act). IsBehind a [] (acts_of s.before []) k s.after (steps set lands.at t)) s.is_end (does_deed set k s.here s.final [] (acts_of s.before []) t lands y s.ends)
+        is : IsBehind (End why) [] (acts_of s.before []) k [] s.after (steps set lands.at t)
+        is = subst (λ (a : Act). IsBehind a [] (acts_of s.before []) k [] s.after (steps set lands.at t)) s.is_end (does_deed set k s.here s.final [] (acts_of s.before []) t lands y s.ends)
 
         shown : is.0 ≡ w
         shown = subst (λ (u : Thread). Shows (world_at k s.here (s.final ∷ []) (acts_of s.before [])) u) is.1 lands.world ∙ sym s.world

@@ -15,12 +15,13 @@ use Rattle.kilim_program.specs.declared.names.MethodId.{MethodId}
 use Rattle.kilim_program.specs.declared.ty.Ty.{Ty}
 use Rattle.kilim_program.specs.declared.value.Value.{Value}
 use Rattle.kilim_program.specs.declared.value.Value.TheVariants.{Int, Long, Null, Ref, Text, Box, Fiber}
-use Rattle.kilim_program.specs.BuiltIn.{built_in_methods_in, class_id, class_type}
+use Rattle.kilim_program.specs.BuiltIn.{built_in_constructor, built_in_methods_in, class_id, class_type, exception_numbers}
 use Rattle.kilim_program.specs.Fits.{fits_type}
 use Rattle.kilim_program.specs.Keeps.{Keeps, code_is_whole}
 use Rattle.kilim_program.specs.Lengths.{code_stands, fetched}
 use Rattle.kilim_program.specs.Names.{class_at, class_name, is_empty, method_at}
 use Rattle.kilim_program.specs.Program.{Program}
+use Rattle.kilim_program.proofs.BuiltIns.{constructors_too}
 use Rattle.kilim_program.specs.Same.{is_constructor}
 use Rattle.kilim_run_state.specs.declared.value.Object.{Object}
 use Rattle.kilim_run_machine.specs.Does.{does, calls_method, calls_on, calls_text, chosen, special, takes_element, text_answers, unit_at, at_unit}
@@ -153,7 +154,7 @@ module _ (P : Program) (keeps : Keeps P) (plainly : P.form ≡ Plain) where
                                   still P _ _ sys refl refl (refl, refl),
                                   (
                                     still P _ _ sys refl refl (refl, refl),
-                                    (still P _ _ sys refl refl tt, tt),
+                                    (still P _ _ sys refl refl tt, constructors_too (FitBuiltIn P) n exception_numbers [] (λ c. still P (built_in_constructor c) (class_name P c) refl refl refl tt) tt),
                                   ),
                                 ),
                               ),

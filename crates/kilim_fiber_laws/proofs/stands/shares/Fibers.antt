@@ -14,10 +14,11 @@ use Rattle.kilim_program.specs.declared.names.MethodId.{MethodId}
 use Rattle.kilim_program.specs.declared.ty.Base.{Base}
 use Rattle.kilim_program.specs.declared.ty.Base.TheVariants as base
 use Rattle.kilim_program.specs.declared.ty.Ty.{Ty}
-use Rattle.kilim_program.specs.BuiltIn.{built_in_methods_in, class_id, class_type, fiber_methods}
+use Rattle.kilim_program.specs.BuiltIn.{built_in_methods_in, class_id, class_type, exception_numbers, fiber_methods}
 use Rattle.kilim_program.specs.Keeps.{Keeps}
 use Rattle.kilim_program.specs.Names.{class_at, class_from, class_name, is_empty, is_named_task, is_task, line_of, method_at}
 use Rattle.kilim_program.specs.Program.{Program}
+use Rattle.kilim_program.proofs.BuiltIns.{constructors_too}
 use Rattle.kilim_program.specs.Same.{is_constructor}
 use Rattle.kilim_program.specs.Members.{named_class, named_type}
 use Rattle.kilim_program.specs.Members.{is_task_execute}
@@ -64,7 +65,7 @@ module _ (W : Program) where
   abbrev pub of_fiber : (m : Method) (k : FiberMember) → class_name W m.owner ≡ codes "kilim/Fiber" → native_named natives (codes "kilim/Fiber") m.name ≡ Some (OfFiber k) → m.built_in ≡ true → m.is_private ≡ false → is_constructor m ≡ false → m.max_locals ≡ 0 → FitMember W m
   of_fiber m k e n b p c l = record { member = k; native = native_is m k e n b c; built_in = b; is_private = p; plain = c; locals = l; text = no_text m e b; handed_out = handed m e b c }
 
-  pub all_members : (n : ℕ) → class_name W (class_id (n + 7)) ≡ codes "kilim/Fiber" → AllByRecursion (FitMember W) (fiber_methods Woven n)
+  pub all_members : (n : ℕ) → class_name W (class_id (n + 18)) ≡ codes "kilim/Fiber" → AllByRecursion (FitMember W) (fiber_methods Woven n)
   all_members n e = (
     of_fiber _ Pc e refl refl refl refl refl,
     (
@@ -106,7 +107,7 @@ behind_them P (x ∷ ms) (w ∷ ws) (c ∷ cs) a zero b n e = absurd (cc)
 behind_them P (x ∷ ms) (w ∷ ws) (c ∷ cs) a (suc k) b n e = behind_them P ms ws cs a.1 k b n e
 
 module _ (P W : Program) (counted : List (List Bool)) (keeps : Keeps P) (plainly : P.form ≡ Plain) (form : WovenForm P W counted) where
-  number : first_class P + 7 ≡ length P.classes
+  number : first_class P + 18 ≡ length P.classes
   number = let e = theorem.first_is P W counted keeps plainly form in let n = theorem.how_many P W counted keeps plainly form in omega (arith, e, n)
 
   pub fiber_at : class_at W (class_id (length P.classes)) ≡ Some (theorem.fiber_parts P W counted keeps plainly form)
@@ -114,7 +115,7 @@ module _ (P W : Program) (counted : List (List Bool)) (keeps : Keeps P) (plainly
       ap (λ (cs : List Class). slice_get cs (length P.classes)) (names.grown P W counted keeps plainly form)
       ∙ get_right P.classes (theorem.fiber_parts P W counted keeps plainly form ∷ []) (length P.classes) 0 (omega arith)
 
-  pub fiber_name : class_name W (class_id (first_class P + 7)) ≡ codes "kilim/Fiber"
+  pub fiber_name : class_name W (class_id (first_class P + 18)) ≡ codes "kilim/Fiber"
   fiber_name = ap (λ (n : ℕ). class_name W (class_id n)) number ∙ ap (λ (o : Option Class). elim o [ None ↦ [] | Some class ↦ class.name ]) fiber_at
 
   -- every other method of the woven program is one of them
@@ -168,7 +169,7 @@ module _ (P W : Program) (counted : List (List Bool)) (keeps : Keeps P) (plainly
                       (λ e. absurd (false≢true e)),
                       (
                         (λ e. absurd (false≢true e)),
-                        ((λ e. absurd (false≢true e)), ((λ e. absurd (false≢true e)), ((λ e. absurd (false≢true e)), ((λ e. absurd (false≢true e)), ((λ e. absurd (false≢true e)), ((λ e. absurd (false≢true e)), ((λ e. absurd (false≢true e)), tt))))))),
+                        ((λ e. absurd (false≢true e)), ((λ e. absurd (false≢true e)), ((λ e. absurd (false≢true e)), ((λ e. absurd (false≢true e)), ((λ e. absurd (false≢true e)), ((λ e. absurd (false≢true e)), ((λ e. absurd (false≢true e)), constructors_too ExecutesAs n exception_numbers [] (λ c e. absurd (false≢true e)) tt))))))),
                       ),
                     ),
                   ),

@@ -8,7 +8,7 @@ use Rattle.kilim_fiber_laws.specs.woven_kin.history.History.{ComesTo, Does, Foll
 use Rattle.kilim_fiber_laws.specs.woven_kin.history.Laws.{HistoryGoesOn}
 use Rattle.kilim_fiber_laws.proofs.woven_kin.history.Steps.{machine_follows}
 use Rattle.kilim_fiber_laws.specs.woven_kin.Laws.{tree_came}
-use Rattle.kilim_fiber_laws.specs.woven_kin.Nexts.{Next, Goes, Puts, Gets, Probes, Starts, Prints, Rests, Ends, Stands, next_of, PutWaits, Bounds}
+use Rattle.kilim_fiber_laws.specs.woven_kin.Nexts.{Next, Goes, Puts, Gets, Probes, Starts, Prints, Rests, Ends, Stands, next_of, PutWaits, Bounds, PutsAgain, apart_at}
 use Rattle.kilim_fiber_laws.specs.woven_kin.Standing.{Standing}
 use Rattle.kilim_fiber_spec.specs.Acts.{Action, Lost, Wants}
 use Rattle.kilim_fiber_spec.specs.Fibers.{WStop, Woven_state, wstep, wsteps}
@@ -51,9 +51,9 @@ module _ (set : Setting) (W : Program) (marks : List (List Bool)) where
     stops a y e =
         let s = e acts [] in
         let r = over [] (WStop (Wants a s.0)) s.1 in
-        (r.0, r.1, s.0, r.2, s.2, s.3, s.4, s.5)
+        (r.0, r.1, s.0, r.2, s.2, s.3, s.4, s.5, s.6)
 
-    -- behind a deed; a `get` has used up what is left of its pauses
+    -- behind a deed; a `get` and a put that waits have used up what is left of their pauses
     behind : (d : Deed) (y : Standing) → Leads t out d y → GoesOn set W marks t first deeds acts d y
     behind d y e rest k more =
         subst (λ (ds : List Deed). Comes ds (state_of t y rest (d.act ∷ acts) (k ∷ more))) (sym (append_append deeds d rest)) (to (d ∷ rest) k more (state_of t y rest (d.act ∷ acts) (k ∷ more)) (e rest acts (k ∷ more)))
@@ -66,7 +66,8 @@ module _ (set : Setting) (W : Program) (marks : List (List Bool)) where
     onward (Goes y) e = goes y e
     onward (Rests y) e = goes y e
     onward (Puts box root shape y) e = (stops _ y e.0, λ n. behind _ _ (e.1 n))
-    onward (PutWaits box root shape y) e = (stops _ y e.0, λ n. behind _ _ (e.1 n))
+    onward (PutWaits box root shape paused y) e = (stops _ y e.0, λ rest k more. to rest (suc k) more (state_of t (apart_at set.program root shape paused) rest acts (k ∷ more)) (e.1 rest acts k more), λ n. behind_get _ _ (e.2 n))
+    onward (PutsAgain box root shape full paused y) e = (stops _ full e.0, λ rest k more. to rest (suc k) more (state_of t paused rest acts (k ∷ more)) (e.1 rest acts k more), λ n. behind_get _ _ (e.2 n))
     onward (Bounds box most y) e = (stops _ y e.0, behind _ _ e.1)
     onward (Gets box paused y) e = (
       stops _ y e.0,

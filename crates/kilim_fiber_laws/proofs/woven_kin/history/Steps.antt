@@ -32,10 +32,12 @@ use Rattle.kilim_run_model.specs.Lone.{arg_at, box_limit, printed}
 use Rattle.kilim_run_model.specs.State.{Setting}
 use Rattle.kilim_fiber_laws.specs.woven_kin.history.History.{Does, Outcome, state_in, took, world_of}
 use Rattle.kilim_fiber_laws.specs.woven_kin.history.Laws.{MachineFollows}
-use Rattle.kilim_fiber_laws.specs.woven_kin.Nexts.{Next, Goes, Gets, Rests, Ends, Stands, arg_next, asks_next, begins_next, begun_in, begun_with, found_next, finish_next, get_next, message_next, native_next, next_by, next_in, next_of, paused_at, print_next, put_next, resumes_next, spent_or, start_next, stood, taken_at, ticked, yield_next, put_wait_next, wait_next, bound_next}
+use Rattle.kilim_fiber_laws.specs.woven_kin.Nexts.{Next, Goes, Gets, Rests, Ends, Stands, arg_next, asks_next, begins_next, begun_in, begun_with, found_next, finish_next, get_next, message_next, native_next, next_by, next_in, next_of, paused_at, print_next, put_next, resumes_next, spent_or, start_next, stood, taken_at, ticked, yield_next, put_wait_next, wait_next, bound_next, PutsAgain, first_wait, putw_next, wait_again, waiting_at}
 use Rattle.kilim_fiber_laws.specs.woven_kin.Standing.{Standing}
-use Rattle.kilim_fiber_spec.specs.Acts.{Lost, World, counted, ending, gives_arg, native_does, prints, puts, puts_value, receives, starts, with_heap, put_waits, waits_value, bounds}
-use Rattle.kilim_fiber_spec.specs.Fibers.{Fib, Fiber_at, Resting, Saved, WRun, WStop, Woven_state, as_member, before, enter, executes_on, first_receiver, gets, handed_does, is_pausing, is_rewinding, marked, marks_of, member_does, rewound, spending_if, tick, wasks, wbegins, wbegins_in, wcode_in, weffect, wfetch, wfinishes, wfound, without_fiber, wnative, wreturns, wresumes, wstep, yields}
+use Rattle.kilim_fiber_spec.specs.Acts.{Lost, World, counted, ending, gives_arg, native_does, prints, puts, puts_value, receives, starts, with_heap, put_waits, bounds, Apart, Wants, together}
+use Rattle.kilim_fiber_spec.specs.Acts as action
+use Rattle.kilim_run_model.specs.Course.{plain}
+use Rattle.kilim_fiber_spec.specs.Fibers.{Fib, Fiber_at, Resting, Saved, WRun, WStop, Woven_state, as_member, before, enter, executes_on, first_receiver, gets, handed_does, is_pausing, is_rewinding, marked, marks_of, member_does, rewound, spending_if, tick, wasks, wbegins, wbegins_in, wcode_in, weffect, wfetch, wfinishes, wfound, without_fiber, wnative, wreturns, wresumes, wstep, yields, put_again, puts_kept, putting, waits, waits_again, waits_on}
 use Rattle.kilim_fiber_spec.specs.Thread.{own_in, own_of, push}
 
 -- ---- the instruction at a place
@@ -86,6 +88,10 @@ abbrev is_one : Option (List Value) → Bool
 is_one (Some (v ∷ [])) = true
 is_one o = false
 
+abbrev is_two : Option (List Value) → Bool
+is_two (Some (v ∷ u ∷ [])) = true
+is_two o = false
+
 abbrev is_none : Option (List Value) → Bool
 is_none (Some []) = true
 is_none o = false
@@ -132,34 +138,113 @@ module _ (set : Setting) (W : Program) (marks : List (List Bool)) (t : ℕ) wher
 
     put_so : (box : BoxName) (n : ℕ) (o : Option (List Token)) → Is (λ rest acts ps. puts set (here rest acts) WStop (λ after v. go z.fiber after ps v) box n o) (put_next at_call box n o)
     put_so box n None = ends_at z cause.Large
-    put_so box n (Some shape) = (λ acts more. (here [] acts, refl, refl, refl, refl, refl), λ k rest acts ps. refl)
+    put_so box n (Some shape) = (λ acts more. (here [] acts, refl, refl, refl, refl, refl, refl), λ k rest acts ps. refl)
 
     message_so : (box : BoxName) (v : Value) → Is (λ rest acts ps. puts_value set (here rest acts) WStop (λ after u. go z.fiber after ps u) box v) (message_next set.program at_call box v)
     message_so box Null = ends_at z cause.Null
     message_so box (Ref n) = put_so box n (shape_of set.program z.heap n)
     message_so box _ = λ acts more. refl
 
-    put_wait_so : (box : BoxName) (n : ℕ) (o : Option (List Token)) → Is (λ rest acts ps. put_waits set (here rest acts) WStop (λ after v. go z.fiber after ps v) box n o) (put_wait_next at_call box n o)
-    put_wait_so box n None = ends_at z cause.Large
-    put_wait_so box n (Some shape) = (λ acts more. (here [] acts, refl, refl, refl, refl, refl), λ k rest acts ps. refl)
+    -- a put that waits is made now
+    abbrev put_now : List Deed → List Act → List ℕ → List Value → Woven_state
+    put_now rest acts ps args = native_does set (here rest acts) WStop (λ after v. go (rewound z.fiber) after ps v) native.PutWait args
 
-    wait_so : (box : BoxName) (v : Value) → Is (λ rest acts ps. waits_value set (here rest acts) WStop (λ after u. go z.fiber after ps u) box v) (wait_next set.program at_call box v)
-    wait_so box Null = ends_at z cause.Null
-    wait_so box (Ref n) = put_wait_so box n (shape_of set.program z.heap n)
-    wait_so box _ = λ acts more. refl
+    put_wait_so : (box : BoxName) (n : ℕ) (o : Option (List Token)) → shape_of set.program z.heap n ≡ o → nat_le set.limits.steps z.done ≡ false →
+        Is (λ rest acts ps. waits set W marks go (Box box ∷ Ref n ∷ []) z.fiber (here rest acts) ps) (put_wait_next set.program at_call box n o)
+    put_wait_so box n None has left = λ acts more. (
+      here [] acts,
+      ap (λ (c : Bool). cond c (ending set (here [] acts) WStop cause.Spent) (put_now [] acts more (Box box ∷ Ref n ∷ []))) left ∙ ap (λ (o : Option (List Token)). put_waits set (here [] acts) WStop (λ after v. go (rewound z.fiber) after more v) box n o) has,
+      refl,
+    )
+    put_wait_so box n (Some shape) has left = (
+      λ acts more. (
+        here [] acts,
+        ap (λ (c : Bool). cond c (ending set (here [] acts) WStop cause.Spent) (put_now [] acts more (Box box ∷ Ref n ∷ []))) left ∙ ap (λ (o : Option (List Token)). put_waits set (here [] acts) WStop (λ after v. go (rewound z.fiber) after more v) box n o) has,
+        refl,
+        refl,
+        refl,
+        refl,
+        refl,
+      ),
+      λ rest acts k ps. ap (λ (o : Option (List Token)). waits_on set W marks go box n o z.fiber (here rest acts) k ps) has,
+      λ k rest acts ps.
+          ap (λ (c : Bool). cond c (ending set (here (plain (act.Put box k shape) ∷ rest) acts) WStop cause.Spent) (put_now (plain (act.Put box k shape) ∷ rest) acts ps (Box box ∷ Ref n ∷ []))) left
+          ∙ ap (λ (o : Option (List Token)). put_waits set (here (plain (act.Put box k shape) ∷ rest) acts) WStop (λ after v. go (rewound z.fiber) after ps v) box n o) has,
+    )
+
+    wait_so : (box : BoxName) (v : Value) → nat_le set.limits.steps z.done ≡ false → Is (λ rest acts ps. waits set W marks go (Box box ∷ v ∷ []) z.fiber (here rest acts) ps) (wait_next set.program at_call box v)
+    wait_so box Null left = λ acts more. (here [] acts, ap (λ (c : Bool). cond c (ending set (here [] acts) WStop cause.Spent) (put_now [] acts more (Box box ∷ Null ∷ []))) left, refl)
+    wait_so box (Ref n) left = put_wait_so box n (shape_of set.program z.heap n) refl left
+    wait_so box v left = λ acts more. ap (λ (c : Bool). cond c (ending set (here [] acts) WStop cause.Spent) (WStop Lost)) left
+
+    first_so : (v u : Value) → nat_le set.limits.steps z.done ≡ false → Is (λ rest acts ps. waits set W marks go (v ∷ u ∷ []) z.fiber (here rest acts) ps) (first_wait set.program at_call v u)
+    first_so (Box box) u left = wait_so box u left
+    first_so v u left = λ acts more. ap (λ (c : Bool). cond c (ending set (here [] acts) WStop cause.Spent) (WStop Lost)) left
+
+    waits_so : (v u : Value) → Is (λ rest acts ps. waits set W marks go (v ∷ u ∷ []) z.fiber (here rest acts) ps) (spent_or set true z.done (first_wait set.program at_call v u))
+    waits_so v u = by (nat_le set.limits.steps z.done) refl
+      where
+        over : (xs : List Value) (acts : List Act) (more : List ℕ) → waits set W marks go xs z.fiber (here [] acts) (0 ∷ more) ≡ cond (nat_le set.limits.steps z.done) (ending set (here [] acts) WStop cause.Spent) (put_now [] acts more xs)
+        over (Box box ∷ Ref n ∷ []) acts more = refl
+        over xs acts more = refl
+
+        by : (c : Bool) → nat_le set.limits.steps z.done ≡ c → Is (λ rest acts ps. waits set W marks go (v ∷ u ∷ []) z.fiber (here rest acts) ps) (cond c (Ends cause.Spent) (first_wait set.program at_call v u))
+        by true e = λ acts more. (here [] acts, over (v ∷ u ∷ []) acts more ∙ ap (λ (c : Bool). cond c (ending set (here [] acts) WStop cause.Spent) (put_now [] acts more (v ∷ u ∷ []))) e, refl)
+        by false e = first_so v u e
+
+    -- made again
+    again_left : (box : BoxName) (kept : Apart) (others : List Apart) → nat_le set.limits.steps z.done ≡ false → Is (λ rest acts ps. waits_again set W marks go box kept others z.fiber (here rest acts) ps)
+        (PutsAgain box kept.root kept.shape (taken_at (record at_call { heap = kept.heap; aside = others })) (waiting_at box at_call) (taken_at (record at_call { aside = others })))
+    again_left box kept others left = (
+      λ acts more. (
+        together kept.heap others (here [] acts),
+        ap (λ (c : Bool). cond c (ending set (together kept.heap others (here [] acts)) WStop cause.Spent) (WStop (Wants (action.PutWaits box kept.root kept.shape) (together kept.heap others (here [] acts))))) left,
+        refl,
+        refl,
+        refl,
+        refl,
+        refl,
+      ),
+      λ rest acts k ps. refl,
+      λ k rest acts ps.
+          ap (λ (c : Bool). cond c (ending set (together kept.heap others (here (plain (act.Put box k kept.shape) ∷ rest) acts)) WStop cause.Spent)
+          (put_again set W marks go box kept.shape z.fiber (here (plain (act.Put box k kept.shape) ∷ rest) acts) (together kept.heap others (here (plain (act.Put box k kept.shape) ∷ rest) acts)) ps (act.Put box k kept.shape) rest)) left,
+    )
+
+    again_by : (box : BoxName) (kept : Apart) (others : List Apart) → Is (λ rest acts ps. waits_again set W marks go box kept others z.fiber (here rest acts) ps) (wait_again set at_call (Box box) (kept ∷ others))
+    again_by box kept others = by (nat_le set.limits.steps z.done) refl
+      where
+        by : (c : Bool) → nat_le set.limits.steps z.done ≡ c → Is (λ rest acts ps. waits_again set W marks go box kept others z.fiber (here rest acts) ps)
+            (cond c (Ends cause.Spent) (PutsAgain box kept.root kept.shape (taken_at (record at_call { heap = kept.heap; aside = others })) (waiting_at box at_call) (taken_at (record at_call { aside = others }))))
+        by true e = λ acts more. (
+          together kept.heap others (here [] acts),
+          ap (λ (c : Bool). cond c (ending set (together kept.heap others (here [] acts)) WStop cause.Spent) (WStop (Wants (action.PutWaits box kept.root kept.shape) (together kept.heap others (here [] acts))))) e,
+          refl,
+        )
+        by false e = again_left box kept others e
+
+    again_so : (v u : Value) (kept : List Apart) → Is (λ rest acts ps. puts_kept set W marks go kept (v ∷ u ∷ []) z.fiber (here rest acts) ps) (wait_again set at_call v kept)
+    again_so (Box box) u (kept ∷ others) = again_by box kept others
+    again_so (Box box) u [] = λ acts more. refl
+    again_so v u [] = λ acts more. refl
+    again_so v u (kept ∷ others) = λ acts more. refl
+
+    putting_so : (v u : Value) (f : Fib) → z.fiber ≡ f → Is (λ rest acts ps. putting set W marks go (v ∷ u ∷ []) f (here rest acts) ps) (putw_next set (is_rewinding f) at_call v u)
+    putting_so v u (Fiber_at lo r de true pa) e = subst (λ (g : Fib). Is (λ rest acts ps. puts_kept set W marks go z.aside (v ∷ u ∷ []) g (here rest acts) ps) (wait_again set at_call v z.aside)) e (again_so v u z.aside)
+    putting_so v u (Fiber_at lo r de false pa) e = subst (λ (g : Fib). Is (λ rest acts ps. waits set W marks go (v ∷ u ∷ []) g (here rest acts) ps) (spent_or set true z.done (first_wait set.program at_call v u))) e (waits_so v u)
 
     bound_so : (box : BoxName) (i : ℤ) → Is (λ rest acts ps. bounds set (here rest acts) WStop (λ after v. go z.fiber after ps v) box i) (bound_next at_call box i)
-    bound_so box (pos (suc n)) = (λ acts more. (here [] acts, refl, refl, refl, refl, refl), λ rest acts ps. refl)
+    bound_so box (pos (suc n)) = (λ acts more. (here [] acts, refl, refl, refl, refl, refl, refl), λ rest acts ps. refl)
     bound_so box (pos zero) = ends_at z cause.Size
     bound_so box (negsuc n) = ends_at z cause.Size
 
     start_so : (n : ℕ) (o : Option (List Token)) → Is (λ rest acts ps. starts set (here rest acts) WStop (λ after v. go z.fiber after ps v) n o) (start_next at_call n o)
     start_so n None = ends_at z cause.Large
-    start_so n (Some shape) = (λ acts more. (here [] acts, refl, refl, refl, refl, refl), λ k rest acts ps. refl)
+    start_so n (Some shape) = (λ acts more. (here [] acts, refl, refl, refl, refl, refl, refl), λ k rest acts ps. refl)
 
     print_so : (o : Option Token) → Is (λ rest acts ps. prints set (here rest acts) WStop (λ after v. go z.fiber after ps v) o) (print_next at_call o)
     print_so None = λ acts more. refl
-    print_so (Some token) = (λ acts more. (here [] acts, refl, refl, refl, refl, refl), λ rest acts ps. refl)
+    print_so (Some token) = (λ acts more. (here [] acts, refl, refl, refl, refl, refl, refl), λ rest acts ps. refl)
 
     arg_so : (o : Option ℤ) → Is (λ rest acts ps. gives_arg set (here rest acts) WStop (λ after v. go z.fiber after ps v) o) (arg_next at_call o)
     arg_so None = ends_at z cause.Index
@@ -168,7 +253,7 @@ module _ (set : Setting) (W : Program) (marks : List (List Bool)) (t : ℕ) wher
     -- a tree of the shape in the deed comes
     probe_so : (box : BoxName) → Is (Plainly native.Getnb (Box box ∷ [])) (native_next set at_call native.Getnb (Box box ∷ []))
     probe_so box = (
-      λ acts more. (here [] acts, refl, refl, refl, refl, refl),
+      λ acts more. (here [] acts, refl, refl, refl, refl, refl, refl),
       λ rest acts ps. refl,
       λ n shape os e rest acts ps.
           ap (λ (o : Option (List Object)). receives set (here (took box n shape ∷ rest) acts) WStop (λ after v. go z.fiber after ps v) (act.Take box n) rest o) e,
@@ -177,7 +262,7 @@ module _ (set : Setting) (W : Program) (marks : List (List Bool)) (t : ℕ) wher
     -- a `get` of a mailbox, with instructions left
     mailbox_so : (box : BoxName) → nat_le set.limits.steps z.done ≡ false → Is (λ rest acts ps. gets set W marks go (Box box ∷ []) (Box box) z.fiber (here rest acts) ps) (Gets box (paused_at box at_call) (taken_at at_call))
     mailbox_so box left = (
-      λ acts more. (here [] acts, ap (λ (c : Bool). cond c (ending set (here [] acts) WStop cause.Spent) (takes_by [] acts more)) left, refl, refl, refl, refl),
+      λ acts more. (here [] acts, ap (λ (c : Bool). cond c (ending set (here [] acts) WStop cause.Spent) (takes_by [] acts more)) left, refl, refl, refl, refl, refl),
       λ rest acts k ps. refl,
       λ n shape os e rest acts ps.
           ap (λ (c : Bool). cond c (ending set (here (took box n shape ∷ rest) acts) WStop cause.Spent) (takes_by (took box n shape ∷ rest) acts ps)) left
@@ -242,6 +327,22 @@ module _ (set : Setting) (W : Program) (marks : List (List Bool)) (t : ℕ) wher
         subst (λ (us : List Value). Is (λ rest acts ps. handed_does set W marks go native.Get (Some (v ∷ [])) z.fiber (here rest acts) ps) (native_next set at_call native.Get us)) (sym (with_fiber args (v ∷ []) e)) (get_so v)
     handed_get args o e = lost_so o native.Get args (get_stands args (ap is_one e)) (λ acts more. refl)
 
+    lost_put : (o : Option (List Value)) → is_two o ≡ false → (f : Fib) (acts : List Act) (more : List ℕ) → handed_does set W marks go native.PutWait o f (here [] acts) (0 ∷ more) ≡ WStop Lost
+    lost_put None e f acts more = refl
+    lost_put (Some []) e f acts more = refl
+    lost_put (Some (v ∷ [])) e f acts more = refl
+    lost_put (Some (v ∷ u ∷ [])) e f acts more = absurd (false≢true (sym e))
+    lost_put (Some (v ∷ u ∷ x ∷ vs)) e f acts more = refl
+
+    put_stands : (args : List Value) → is_two (without_fiber args) ≡ false → native_next set at_call native.PutWait args ≡ Stands
+    put_stands (v ∷ u ∷ Fiber ∷ []) other = absurd (false≢true (sym other))
+    put_stands _ other = refl
+
+    handed_put : (args : List Value) (o : Option (List Value)) → without_fiber args ≡ o → Is (λ rest acts ps. handed_does set W marks go native.PutWait o z.fiber (here rest acts) ps) (native_next set at_call native.PutWait args)
+    handed_put args (Some (v ∷ u ∷ [])) e =
+        subst (λ (us : List Value). Is (λ rest acts ps. handed_does set W marks go native.PutWait (Some (v ∷ u ∷ [])) z.fiber (here rest acts) ps) (native_next set at_call native.PutWait us)) (sym (with_fiber args (v ∷ u ∷ []) e)) (putting_so v u z.fiber refl)
+    handed_put args o e = lost_so o native.PutWait args (put_stands args (ap is_two e)) (λ acts more. lost_put o refl z.fiber acts more)
+
     yield_stands : (args : List Value) → is_none (without_fiber args) ≡ false → native_next set at_call native.Yield args ≡ Stands
     yield_stands (Fiber ∷ []) other = absurd (false≢true (sym other))
     yield_stands _ other = refl
@@ -257,7 +358,7 @@ module _ (set : Setting) (W : Program) (marks : List (List Bool)) (t : ℕ) wher
     native_so native.Yield args o = handed_yield args (without_fiber args) refl
     native_so native.Start (Ref n ∷ []) o = start_so n (shape_of set.program z.heap n)
     native_so native.Put (Box box ∷ v ∷ []) o = message_so box v
-    native_so native.PutWait (Box box ∷ v ∷ []) o = wait_so box v
+    native_so native.PutWait args o = handed_put args (without_fiber args) refl
     native_so native.Bound (Box box ∷ Int i ∷ []) o = bound_so box i
     native_so native.Getnb (Box box ∷ []) o = probe_so box
     native_so native.Print (v ∷ []) o = print_so (printed v)

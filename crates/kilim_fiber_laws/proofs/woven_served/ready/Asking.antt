@@ -141,6 +141,18 @@ module _ (p : Program) (own : Method) (id : MethodId) (named : Method) (at : met
       special_is l (Box b ∷ s)
       ∙ ap (λ (tys : List Ty). on_values (length tys) (Box b ∷ s) (λ vs below. on_value below (λ v rest. as_receiver v (λ receiver. calls_method (method_at p (special p own named id)) (special p own named id) (receiver ∷ reverse vs) to l rest h)))) none
 
+  -- the same with one argument
+  pub box_virtual_one : length named.params ≡ 1 → (b : _) (v : Value) → (l s : List Value) → does p own (instr.Invokevirtual id) to l (v ∷ Box b ∷ s) h ≡ calls_on p named id (v ∷ []) to l s h (Box b) (named_type p (codes "kilim/Mailbox"))
+  box_virtual_one one b v l s =
+      virtual_is l (v ∷ Box b ∷ s)
+      ∙ (ap (λ (n : ℕ). on_values n (v ∷ Box b ∷ s) (λ vs below. on_value below (λ receiver rest. cond (is_text_method p named) (calls_text named (reverse vs) to l rest h receiver) (as_class p receiver h (calls_on p named id (reverse vs) to l rest h receiver))))) one
+      ∙ ap (λ (z : Bool). cond z (calls_text named (reverse (v ∷ [])) to l s h (Box b)) (as_class p (Box b) h (calls_on p named id (reverse (v ∷ [])) to l s h (Box b)))) no_text)
+
+  pub box_special_one : length named.params ≡ 1 → (b : _) (v : Value) → (l s : List Value) → does p own (instr.Invokespecial id) to l (v ∷ Box b ∷ s) h ≡ calls_method (method_at p (special p own named id)) (special p own named id) (Box b ∷ v ∷ []) to l s h
+  box_special_one one b v l s =
+      special_is l (v ∷ Box b ∷ s)
+      ∙ ap (λ (n : ℕ). on_values n (v ∷ Box b ∷ s) (λ vs below. on_value below (λ u rest. as_receiver u (λ receiver. calls_method (method_at p (special p own named id)) (special p own named id) (receiver ∷ reverse vs) to l rest h)))) one
+
   static_is : (l s : List Value) → does p own (instr.Invokestatic id) to l s h ≡ cond named.built_in (on_values (length named.params) s (λ vs rest. Asks id (reverse vs) to l rest h)) (cond named.built_in (takes_element to l s h) (on_values (length named.params) s (λ vs rest. Calls id (reverse vs) to l rest h)))
   unfolding does
   static_is l s =

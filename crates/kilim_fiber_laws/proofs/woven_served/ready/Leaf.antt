@@ -51,10 +51,10 @@ use Rattle.kilim_fiber_laws.proofs.courses.Roomy.{types_length, typing_low}
 use Rattle.kilim_run_interp.specs.Step.{stack_limit}
 use Rattle.kilim_fiber_laws.specs.stands.Law.{IsFormOf}
 
-method_is : (x y : Method) → Some x ≡ Some y → x ≡ y
+pub method_is : (x y : Method) → Some x ≡ Some y → x ≡ y
 method_is x y e = cc
 
-heads : (x y : Value) (xs ys : List Value) → x ∷ xs ≡ y ∷ ys → (x ≡ y) × (xs ≡ ys)
+pub heads : (x y : Value) (xs ys : List Value) → x ∷ xs ≡ y ∷ ys → (x ≡ y) × (xs ≡ ys)
 heads x y xs ys e = (cc, cc)
 
 not_empty : (x : Value) (xs : List Value) → x ∷ xs ≡ [] → ⊥
@@ -68,7 +68,7 @@ reversed_none : (xs : List Value) → reverse xs ≡ [] → xs ≡ []
 reversed_none xs e = none_long xs (sym (length-reverse xs) ∙ ap (λ (ys : List Value). length ys) e)
 
 -- the method that a pausable call names
-callee_there : (o : Option Method) (callee : Method) → if_there o ≡ Some callee → (o ≡ Some callee) × (callee.pausable ≡ true)
+pub callee_there : (o : Option Method) (callee : Method) → if_there o ≡ Some callee → (o ≡ Some callee) × (callee.pausable ≡ true)
 callee_there None callee e = absurd (none e)
   where
     none : None ≡ Some callee → ⊥
@@ -83,12 +83,12 @@ callee_there (Some m) callee e = by m.pausable refl e
     by false p e = absurd (none e)
 
 -- the instructions that can name a pausable method
-data IsCall : Instr → Type 0 where
+pub data IsCall : Instr → Type 0 where
   OnClass : (id : MethodId) → IsCall (instr.Invokevirtual id)
   Special : (id : MethodId) → IsCall (instr.Invokespecial id)
   Static : (id : MethodId) → IsCall (instr.Invokestatic id)
 
-is_call : (P : Program) (callee : Method) (i : Instr) → pausable_callee P i ≡ Some callee → IsCall i
+pub is_call : (P : Program) (callee : Method) (i : Instr) → pausable_callee P i ≡ Some callee → IsCall i
 is_call P callee (instr.Invokevirtual id) e = OnClass id
 is_call P callee (instr.Invokespecial id) e = Special id
 is_call P callee (instr.Invokestatic id) e = Static id
@@ -100,7 +100,7 @@ IsSound p = (id : MethodId) (a : Method) → method_at p id ≡ Some a → a.pau
 
 module _ (set : Setting) (run : IsRunOfAccepted set) (pauses : KeepsPauses set.program) (sound : IsSound set.program) (W : Program) (marks : List (List Bool)) (form : Forms set W marks)
     (is_form : (m : MethodId) (a : Method) → method_at set.program m ≡ Some a → IsFormOf set.program W (code set W marks) m (form m) a) (agree : Agree set.program W) (of : Classes) (h : Objects) (heap : HeapFits set.program of h)
-    (m : MethodId) (own : Method) (there : method_at set.program m ≡ Some own) (p to : ℕ) (l s : List Value) (stack : have_types set.program own of (typing_at set.program m p).stack s ≡ true) (here : AreThere h s) (g : Types) (callee : Method) (c : MethodId) (args s2 : List Value) where
+    (m : MethodId) (own : Method) (there : method_at set.program m ≡ Some own) (p to : ℕ) (l s : List Value) (stack : have_types set.program own of (typing_at set.program m p).stack s ≡ true) (g : Types) (callee : Method) (c : MethodId) (args s2 : List Value) where
   P : Program
   P = set.program
 
@@ -121,7 +121,7 @@ module _ (set : Setting) (run : IsRunOfAccepted set) (pauses : KeepsPauses set.p
     again_asks : (l3 s3 : List Value) → does set.program own i to l3 s3 h ≡ Asks c [] to l3 s3 h
     drops : Drops callee.result None
 
-  not_constructor : (id : MethodId) → method_at set.program id ≡ Some callee → callee.pausable ≡ true → is_constructor callee ≡ false
+  pub not_constructor : (id : MethodId) → method_at set.program id ≡ Some callee → callee.pausable ≡ true → is_constructor callee ≡ false
   not_constructor id at pausable = by (is_constructor callee) refl
     where
       by : (z : Bool) → is_constructor callee ≡ z → is_constructor callee ≡ false
@@ -132,7 +132,7 @@ module _ (set : Setting) (run : IsRunOfAccepted set) (pauses : KeepsPauses set.p
   null_drops : (o : Option Ty) (ty : Ty) → o ≡ Some ty → is_long (vtype ty) ≡ false → Drops o (Some Null)
   null_drops o ty e short = subst (λ (x : Option Ty). Drops x (Some Null)) (sym e) (sym short)
 
-  none_drops : (o : Option Ty) → o ≡ None → Drops o None
+  pub none_drops : (o : Option Ty) → o ≡ None → Drops o None
   none_drops o e = subst (λ (x : Option Ty). Drops x None) (sym e) tt
 
   -- the method that is asked is `get`
@@ -243,39 +243,39 @@ module _ (set : Setting) (run : IsRunOfAccepted set) (pauses : KeepsPauses set.p
 
   -- ---- the frame
 
-  one_off : (ts : List VType) (v : Value) (vs : List Value) → have_types set.program own of ts (v ∷ vs) ≡ true → (has_type set.program own of (first_of ts) v ≡ true) × (have_types set.program own of (drop 1 ts) vs ≡ true)
+  pub one_off : (ts : List VType) (v : Value) (vs : List Value) → have_types set.program own of ts (v ∷ vs) ≡ true → (has_type set.program own of (first_of ts) v ≡ true) × (have_types set.program own of (drop 1 ts) vs ≡ true)
   one_off [] v vs e = absurd (false≢true e)
   one_off (t ∷ ts) v vs e = and_parts (has_type set.program own of t v) (have_types set.program own of ts vs) e
 
   module _ (i : Instr) (f : fetch set.program m p ≡ Some (i, to)) (hp : pausable_callee set.program i ≡ Some callee) (receives : Receives set.program i s h) (slots : (k : ℕ) → Holds set.program own of (peek (typing_at set.program m p).locals k) (slice_get l k))
       (locals : (j : ℕ) → (form m).live to j ≡ true → (v : Value) → slice_get l j ≡ Some v → Rattle.kilim_type_sound.specs.Fits.IsThere h v) (wl : List Value) (x : Value) (old : ℕ) (was : Value) (self_here : Rattle.kilim_type_sound.specs.Fits.IsThere h x) where
-    stack_fits : (n : ℕ) → taken callee ≡ n → have_types set.program own of (drop n (typing_at set.program m p).stack) s2 ≡ true → AreThere h s2 → AllFit W h (below (plan_of set W marks form m) callee p) s2
+    pub stack_fits : (n : ℕ) → taken callee ≡ n → have_types set.program own of (drop n (typing_at set.program m p).stack) s2 ≡ true → AreThere h s2 → AllFit W h (below (plan_of set W marks form m) callee p) s2
     stack_fits n is typed inside =
         subst (λ (y : Types). AllFit W h (drop (taken callee) y.stack) s2) (sym (types_same set run pauses W marks form is_form agree of h heap m own there p))
         (all_fit set.program W agree (none_named set run pauses W marks form is_form agree of h heap) of h heap (heap_old set.program of h heap) own (drop (taken callee) (typing_at set.program m p).stack) s2
         (subst (λ (k : ℕ). have_types set.program own of (drop k (typing_at set.program m p).stack) s2 ≡ true) (sym is) typed) (across set run pauses W marks form is_form agree of h heap m own there p to i callee f hp).0 inside)
 
-    locals_fit : SlotsFit W h (saved (plan_of set W marks form m) p to) l
+    pub locals_fit : SlotsFit W h (saved (plan_of set W marks form m) p to) l
     locals_fit =
         subst (λ (y : Types). SlotsFit W h (saved_from ((form m).live to) 0 y.locals) l) (sym (types_same set run pauses W marks form is_form agree of h heap m own there p))
         (slots_fit set.program W agree (none_named set run pauses W marks form is_form agree of h heap) of h heap (heap_old set.program of h heap) own ((form m).live to) l (typing_at set.program m p).locals
         (across set run pauses W marks form is_form agree of h heap m own there p to i callee f hp).1 slots locals)
 
-    clean : Clean s
+    pub clean : Clean s
     clean = stack_clean set.program (none_named set run pauses W marks form is_form agree of h heap) own of (typing_at set.program m p).stack s stack
 
-    stack_low : length s ≤ stack_limit set.program m
+    pub stack_low : length s ≤ stack_limit set.program m
     stack_low =
         let own_f : fetched own.code own.code_length p ≡ Some (i, to) = ap (λ (o : Option Method). code_in o p) (sym there) ∙ f in
         let few = types_length set.program own of (typing_at set.program m p).stack s stack in
         let low = typing_low set.program (typing_at set.program) m own there ((is_verified set run.keeps run.form run.well run.accepted run.main run.begins).verified.typed m own there (coded_at own p (i, to) own_f)) p (ap (λ (o : Option (Instr × ℕ)). is_some o) own_f) in
         omega (arith, few, low)
 
-    own_same : (l3 s3 : List Value) → does set.program (own_of set.program m) i to l3 s3 h ≡ does set.program own i to l3 s3 h
+    pub own_same : (l3 s3 : List Value) → does set.program (own_of set.program m) i to l3 s3 h ≡ does set.program own i to l3 s3 h
     own_same l3 s3 = ap (λ (o : Option Method). does set.program (own_in o) i to l3 s3 h) there
 
-    get_fits : (b : BoxName) → IsGetCall i b → native_of set.program c ≡ Some native.Get → Fit set W marks form h (Leaf native.Get) (Box b) (Lk m p to i callee s2 l wl x old was)
-    get_fits b k named =
+    get_fits : AreThere h s → (b : BoxName) → IsGetCall i b → native_of set.program c ≡ Some native.Get → Fit set W marks form h (Leaf native.Get) (Box b) (Lk m p to i callee s2 l wl x old was)
+    get_fits here b k named =
         let again_is : (s3 : List Value) → again callee (Box b) s3 ≡ Box b ∷ s3 = λ s3. ap (λ (tys : List Ty). with_dummies tys (with_receiver callee.is_static (Box b) s3)) k.params ∙ ap (λ (z : Bool). with_receiver z (Box b) s3) k.instance in
         let one : taken callee ≡ 1 = ap (λ (tys : List Ty). length tys + cond callee.is_static 0 1) k.params ∙ ap (λ (z : Bool). 0 + cond z 0 1) k.instance in
         let typed = one_off (typing_at set.program m p).stack (Box b) s2 (subst (λ (xs : List Value). have_types set.program own of (typing_at set.program m p).stack xs ≡ true) k.is stack) in (
@@ -293,8 +293,8 @@ module _ (set : Setting) (run : IsRunOfAccepted set) (pauses : KeepsPauses set.p
           self_here,
         )
 
-    yield_fits : IsYieldCall i → native_of set.program c ≡ Some native.Yield → Fit set W marks form h (Leaf native.Yield) Null (Lk m p to i callee s2 l wl x old was)
-    yield_fits k named =
+    yield_fits : AreThere h s → IsYieldCall i → native_of set.program c ≡ Some native.Yield → Fit set W marks form h (Leaf native.Yield) Null (Lk m p to i callee s2 l wl x old was)
+    yield_fits here k named =
         let again_is : (s3 : List Value) → again callee Null s3 ≡ s3 = λ s3. ap (λ (tys : List Ty). with_dummies tys (with_receiver callee.is_static Null s3)) k.params ∙ ap (λ (z : Bool). with_receiver z Null s3) k.static in
         let none : taken callee ≡ 0 = ap (λ (tys : List Ty). length tys + cond callee.is_static 0 1) k.params ∙ ap (λ (z : Bool). 0 + cond z 0 1) k.static in (
           stack_fits 0 none (subst (λ (xs : List Value). have_types set.program own of (typing_at set.program m p).stack xs ≡ true) k.is stack) (subst (λ (xs : List Value). AreThere h xs) k.is here),
@@ -307,11 +307,11 @@ module _ (set : Setting) (run : IsRunOfAccepted set) (pauses : KeepsPauses set.p
           self_here,
         )
 
-    pub fit_get : does set.program (own_of set.program m) i to l s h ≡ Asks c args to l s2 h → native_of set.program c ≡ Some native.Get → type_step set.program own p i (typing_at set.program m p) ≡ Ok g → (b : BoxName) → args ≡ Box b ∷ [] →
+    pub fit_get : AreThere h s → does set.program (own_of set.program m) i to l s h ≡ Asks c args to l s2 h → native_of set.program c ≡ Some native.Get → type_step set.program own p i (typing_at set.program m p) ≡ Ok g → (b : BoxName) → args ≡ Box b ∷ [] →
         Fit set W marks form h (Leaf native.Get) (leaf_receiver native.Get args) (Lk m p to i callee s2 l wl x old was)
-    fit_get e named step b args_are =
+    fit_get here e named step b args_are =
         subst (λ (xs : List Value). Fit set W marks form h (Leaf native.Get) (leaf_receiver native.Get xs) (Lk m p to i callee s2 l wl x old was)) (sym args_are)
-        (get_fits b (get_call i hp (sym (own_same l s) ∙ e) named step receives b args_are) named)
+        (get_fits here b (get_call i hp (sym (own_same l s) ∙ e) named step receives b args_are) named)
 
-    pub fit_yield : does set.program (own_of set.program m) i to l s h ≡ Asks c args to l s2 h → native_of set.program c ≡ Some native.Yield → args ≡ [] → Fit set W marks form h (Leaf native.Yield) (leaf_receiver native.Yield args) (Lk m p to i callee s2 l wl x old was)
-    fit_yield e named args_are = yield_fits (yield_call i hp (sym (own_same l s) ∙ e) named args_are) named
+    pub fit_yield : AreThere h s → does set.program (own_of set.program m) i to l s h ≡ Asks c args to l s2 h → native_of set.program c ≡ Some native.Yield → args ≡ [] → Fit set W marks form h (Leaf native.Yield) (leaf_receiver native.Yield args) (Lk m p to i callee s2 l wl x old was)
+    fit_yield here e named args_are = yield_fits here (yield_call i hp (sym (own_same l s) ∙ e) named args_are) named

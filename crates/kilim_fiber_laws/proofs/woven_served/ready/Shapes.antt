@@ -1,4 +1,4 @@
--- The built-in methods at which a thread may pause: `get` of mailboxes and `yield`.
+-- The built-in methods at which a thread may pause: `get` of mailboxes, the put that waits, and `yield`.
 use Rattle.std.proofs.Common.{◌≡◌, cond, ℕ, Bool, true, false, List, [], ◌∷◌, length, Some, None, refl, sym, subst, ◌∙◌}
 use Rattle.kilim_run_machine.proofs.Named.{native_is_named}
 use Rattle.std.specs.Prelude.{◌&&◌, codes}
@@ -9,13 +9,16 @@ use Rattle.kilim_program.specs.declared.class.Form.TheVariants.{Plain}
 use Rattle.kilim_program.specs.declared.class.Method.{Method}
 use Rattle.kilim_program.specs.declared.names.MethodId.{MethodId}
 use Rattle.kilim_program.specs.declared.ty.Ty.{Ty}
-use Rattle.kilim_program.specs.BuiltIn.{built_in_methods_in}
+use Rattle.kilim_program.specs.BuiltIn.{built_in_methods_in, exception_numbers}
 use Rattle.kilim_program.specs.Keeps.{Keeps}
 use Rattle.kilim_program.specs.Names.{class_name, method_at}
 use Rattle.kilim_program.specs.Program.{Program}
+use Rattle.kilim_program.proofs.BuiltIns.{constructors_too}
 use Rattle.kilim_isolation_laws.proofs.typed_threads.fine.Natives.{built_in_one}
 use Rattle.kilim_run_machine.specs.Natives.{Native, native_method, native_named, natives}
 use Rattle.kilim_run_machine.specs.Natives as native
+use Rattle.kilim_program.specs.declared.value.Value.TheVariants.{Null}
+use Rattle.kilim_fiber_spec.specs.Links.{dummy_value}
 use Rattle.kilim_type_spec.specs.Step.{is_long, vtype}
 
 native_is : (x y : Native) → Some x ≡ Some y → x ≡ y
@@ -41,11 +44,18 @@ leaf_name (n ∷ ns) k name all class mine e = by (bytes_eq class n.0 && bytes_e
 abbrev pub IsGet : Method → Type 0
 IsGet m = (m.params ≡ []) × (m.is_static ≡ false) × ((ty : Ty) × (m.result ≡ Some ty) × (is_long (vtype ty) ≡ false))
 
+-- its one parameter is no number
+abbrev pub IsPutWait : Method → Type 0
+IsPutWait m = ((ty : Ty) × (m.params ≡ ty ∷ []) × (dummy_value (vtype ty) ≡ Null)) × (m.is_static ≡ false) × (m.result ≡ None)
+
 abbrev pub IsYield : Method → Type 0
 IsYield m = (m.params ≡ []) × (m.is_static ≡ true) × (m.result ≡ None)
 
 pub GetAs : Method → Type 0
 GetAs m = bytes_eq m.name (codes "get") ≡ true → IsGet m
+
+pub WaitAs : Method → Type 0
+WaitAs m = bytes_eq m.name (codes "putw") ≡ true → IsPutWait m
 
 pub YieldAs : Method → Type 0
 YieldAs m = bytes_eq m.name (codes "yield") ≡ true → IsYield m
@@ -53,6 +63,10 @@ YieldAs m = bytes_eq m.name (codes "yield") ≡ true → IsYield m
 other_get : (m : Method) → bytes_eq m.name (codes "get") ≡ false → GetAs m
 unfolding GetAs
 other_get m e = λ f. absurd (false≢true (sym e ∙ f))
+
+other_wait : (m : Method) → bytes_eq m.name (codes "putw") ≡ false → WaitAs m
+unfolding WaitAs
+other_wait m e = λ f. absurd (false≢true (sym e ∙ f))
 
 other_yield : (m : Method) → bytes_eq m.name (codes "yield") ≡ false → YieldAs m
 unfolding YieldAs
@@ -67,10 +81,14 @@ unfolding YieldAs
 this_yield m e = λ f. e
 
 all_get : (n : ℕ) → AllByRecursion GetAs (built_in_methods_in Plain n)
-all_get n = (other_get _ refl, (other_get _ refl, (other_get _ refl, (other_get _ refl, (other_get _ refl, (other_get _ refl, (other_get _ refl, (other_get _ refl, (other_get _ refl, (this_get _ (refl, refl, (_, refl, refl)), (other_get _ refl, (other_get _ refl, (other_get _ refl, (other_get _ refl, (other_get _ refl, (other_get _ refl, (other_get _ refl, (other_get _ refl, tt))))))))))))))))))
+all_get n = (other_get _ refl, (other_get _ refl, (other_get _ refl, (other_get _ refl, (other_get _ refl, (other_get _ refl, (other_get _ refl, (other_get _ refl, (other_get _ refl, (this_get _ (refl, refl, (_, refl, refl)), (other_get _ refl, (other_get _ refl, (other_get _ refl, (other_get _ refl, (other_get _ refl, (other_get _ refl, (other_get _ refl, (other_get _ refl, constructors_too (GetAs) n exception_numbers [] (λ c. other_get _ refl) tt))))))))))))))))))
+
+-- no built-in method is called so yet
+all_wait : (n : ℕ) → AllByRecursion WaitAs (built_in_methods_in Plain n)
+all_wait n = (other_wait _ refl, (other_wait _ refl, (other_wait _ refl, (other_wait _ refl, (other_wait _ refl, (other_wait _ refl, (other_wait _ refl, (other_wait _ refl, (other_wait _ refl, (other_wait _ refl, (other_wait _ refl, (other_wait _ refl, (other_wait _ refl, (other_wait _ refl, (other_wait _ refl, (other_wait _ refl, (other_wait _ refl, (other_wait _ refl, constructors_too (WaitAs) n exception_numbers [] (λ c. other_wait _ refl) tt))))))))))))))))))
 
 all_yield : (n : ℕ) → AllByRecursion YieldAs (built_in_methods_in Plain n)
-all_yield n = (other_yield _ refl, (other_yield _ refl, (other_yield _ refl, (other_yield _ refl, (other_yield _ refl, (other_yield _ refl, (other_yield _ refl, (other_yield _ refl, (other_yield _ refl, (other_yield _ refl, (other_yield _ refl, (other_yield _ refl, (other_yield _ refl, (other_yield _ refl, (this_yield _ (refl, refl, refl), (other_yield _ refl, (other_yield _ refl, (other_yield _ refl, tt))))))))))))))))))
+all_yield n = (other_yield _ refl, (other_yield _ refl, (other_yield _ refl, (other_yield _ refl, (other_yield _ refl, (other_yield _ refl, (other_yield _ refl, (other_yield _ refl, (other_yield _ refl, (other_yield _ refl, (other_yield _ refl, (other_yield _ refl, (other_yield _ refl, (other_yield _ refl, (this_yield _ (refl, refl, refl), (other_yield _ refl, (other_yield _ refl, (other_yield _ refl, constructors_too (YieldAs) n exception_numbers [] (λ c. other_yield _ refl) tt))))))))))))))))))
 
 module _ (p : Program) (keeps : Keeps p) (form : p.form ≡ Plain) where
   built : (m : Method) (k : Native) → native_method p m ≡ Some k → (m.built_in ≡ true) × (native_named natives (class_name p m.owner) m.name ≡ Some k)
@@ -78,6 +96,9 @@ module _ (p : Program) (keeps : Keeps p) (form : p.form ≡ Plain) where
 
   get_named : AllByRecursion (NamedAs native.Get (codes "get")) natives
   get_named = (λ e. absurd (cc), (λ e. absurd (cc), (λ e. absurd (cc), (λ e. absurd (cc), (λ e. absurd (cc), (λ e. refl, (λ e. absurd (cc), (λ e. absurd (cc), (λ e. absurd (cc), (λ e. absurd (cc), (λ e. absurd (cc), (λ e. absurd (cc), (λ e. absurd (cc), (λ e. absurd (cc), (λ e. absurd (cc), (λ e. absurd (cc), (λ e. absurd (cc), (λ e. absurd (cc), (λ e. absurd (cc), (λ e. absurd (cc), (λ e. absurd (cc), (λ e. absurd (cc), tt))))))))))))))))))))))
+
+  wait_named : AllByRecursion (NamedAs native.PutWait (codes "putw")) natives
+  wait_named = (λ e. absurd (cc), (λ e. absurd (cc), (λ e. absurd (cc), (λ e. refl, (λ e. absurd (cc), (λ e. absurd (cc), (λ e. absurd (cc), (λ e. absurd (cc), (λ e. absurd (cc), (λ e. absurd (cc), (λ e. absurd (cc), (λ e. absurd (cc), (λ e. absurd (cc), (λ e. absurd (cc), (λ e. absurd (cc), (λ e. absurd (cc), (λ e. absurd (cc), (λ e. absurd (cc), (λ e. absurd (cc), (λ e. absurd (cc), (λ e. absurd (cc), (λ e. absurd (cc), tt))))))))))))))))))))))
 
   yield_named : AllByRecursion (NamedAs native.Yield (codes "yield")) natives
   yield_named = (λ e. absurd (cc), (λ e. absurd (cc), (λ e. absurd (cc), (λ e. absurd (cc), (λ e. absurd (cc), (λ e. absurd (cc), (λ e. absurd (cc), (λ e. absurd (cc), (λ e. refl, (λ e. absurd (cc), (λ e. absurd (cc), (λ e. absurd (cc), (λ e. absurd (cc), (λ e. absurd (cc), (λ e. absurd (cc), (λ e. absurd (cc), (λ e. absurd (cc), (λ e. absurd (cc), (λ e. absurd (cc), (λ e. absurd (cc), (λ e. absurd (cc), (λ e. absurd (cc), tt))))))))))))))))))))))
@@ -88,6 +109,13 @@ module _ (p : Program) (keeps : Keeps p) (form : p.form ≡ Plain) where
       let b = built m native.Get e in
       let all : GetAs m = built_in_one p keeps form GetAs (all_get (length keeps.built_in.own_classes)) id m at b.0 in
       all (leaf_name natives native.Get (codes "get") get_named (class_name p m.owner) m.name b.1)
+
+  pub wait_is : (id : MethodId) (m : Method) → method_at p id ≡ Some m → native_method p m ≡ Some native.PutWait → IsPutWait m
+  unfolding WaitAs
+  wait_is id m at e =
+      let b = built m native.PutWait e in
+      let all : WaitAs m = built_in_one p keeps form WaitAs (all_wait (length keeps.built_in.own_classes)) id m at b.0 in
+      all (leaf_name natives native.PutWait (codes "putw") wait_named (class_name p m.owner) m.name b.1)
 
   pub yield_is : (id : MethodId) (m : Method) → method_at p id ≡ Some m → native_method p m ≡ Some native.Yield → IsYield m
   unfolding YieldAs

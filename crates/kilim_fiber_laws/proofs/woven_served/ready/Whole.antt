@@ -20,7 +20,7 @@ use Rattle.kilim_weave_laws.proofs.woven_program.Made.{there}
 use Rattle.kilim_weave_laws.specs.woven_program.Made.{woven_counted, woven_program}
 use Rattle.kilim_fiber_laws.proofs.woven_served.ready.Executes.{execute_same}
 use Rattle.kilim_fiber_laws.proofs.woven_served.ready.Ready.{can_pause, over_pauses}
-use Rattle.kilim_fiber_laws.specs.woven_served.ready.Law.{FormServes, MayBegin, ServesTasks, TasksServe, WovenFormsServe}
+use Rattle.kilim_fiber_laws.specs.woven_served.ready.Law.{MayBegin, ServesTasks, TasksServe, WovenFormsServe}
 use Rattle.kilim_fiber_laws.proofs.receivers.Begins.{one_frame}
 use Rattle.kilim_fiber_spec.specs.Acts.{Lost, Over}
 use Rattle.kilim_fiber_spec.specs.Links.{code}

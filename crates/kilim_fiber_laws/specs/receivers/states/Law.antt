@@ -41,7 +41,7 @@ boxes_of (state.Ended cause) = 0
 
 -- the world of a task whose thread stands so, with these deeds to come, and these acts done
 abbrev pub world_at : ℕ → Lone → List Deed → List Act → World
-world_at k l deeds acts = record { task = k; heap = l.heap; next = l.next; kept = l.kept; deeds = deeds; acts = acts; done = done_of l.thread; boxes = boxes_of l.thread }
+world_at k l deeds acts = record { task = k; heap = l.heap; next = l.next; kept = l.kept; deeds = deeds; acts = acts; done = done_of l.thread; boxes = boxes_of l.thread; aside = [] }
 
 -- ---- beginnings
 
@@ -95,7 +95,7 @@ pub record IsAlong (set : Setting) (k : ℕ) (c : Course) (l : Lone) (left : Lis
   pub of : IsOf set k (record { beginning = c.beginning; deeds = done }) l
 
 abbrev pub ThreadAlong : Setting → ℕ → Course → Thread → Type 0
-ThreadAlong set k c (Run m p l s x b w) = (w.task ≡ k) × IsAlong set k c (lone_at m p l s b w) w.deeds w.acts
+ThreadAlong set k c (Run m p l s x b w) = (w.task ≡ k) × (w.aside ≡ []) × IsAlong set k c (lone_at m p l s b w) w.deeds w.acts
 ThreadAlong set k c (Stop over) = Unit {0}
 
 -- ---- where it leads

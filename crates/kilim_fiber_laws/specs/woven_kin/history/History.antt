@@ -1,5 +1,5 @@
 -- A woven fiber that stands is a state of the woven machine, with deeds and pauses to come; and what it comes to is told by its history: the
--- deeds of its course, and how often each `get` found its mailbox empty.
+-- deeds of its course, and how often each `get` found its mailbox empty, and each put that waits found its mailbox full.
 use Rattle.std.specs.Prelude.{◌≡◌, ℕ, suc, ◌+◌, Bool, List, [], ◌∷◌, ◌++◌, Some}
 use Rattle.kilim_program.specs.declared.names.BoxName.{BoxName}
 use Rattle.kilim_program.specs.declared.value.Value.TheVariants.{Null}
@@ -14,7 +14,7 @@ use Rattle.kilim_run_model.specs.Course.{plain}
 use Rattle.kilim_run_model.specs.declared.deed.Deed.{Deed}
 use Rattle.kilim_run_model.specs.State.{Setting}
 use Rattle.kilim_fiber_laws.specs.woven_kin.Laws.{tree_came, tree_left}
-use Rattle.kilim_fiber_laws.specs.woven_kin.Nexts.{Next, Goes, Puts, PutWaits, Bounds, Gets, Probes, Starts, Prints, Rests, Ends, Stands, with_result}
+use Rattle.kilim_fiber_laws.specs.woven_kin.Nexts.{Next, Goes, Puts, PutWaits, Bounds, Gets, Probes, Starts, Prints, Rests, Ends, Stands, with_result, PutsAgain, apart_at}
 use Rattle.kilim_fiber_laws.specs.woven_kin.Standing.{Standing}
 use Rattle.kilim_fiber_spec.specs.Acts.{Action, Lost, Wants, World}
 use Rattle.kilim_fiber_spec.specs.Acts as action
@@ -23,7 +23,7 @@ use Rattle.kilim_fiber_spec.specs.Fibers.{Fib, Resting, WRun, WStop, Woven_state
 -- ---- a fiber that stands, as a state of the machine
 
 abbrev pub world_of : ℕ → Standing → List Deed → List Act → World
-world_of t x deeds acts = record { task = t; heap = x.heap; next = x.next; kept = x.kept; deeds = deeds; acts = acts; done = x.done; boxes = x.boxes }
+world_of t x deeds acts = record { task = t; heap = x.heap; next = x.next; kept = x.kept; deeds = deeds; acts = acts; done = x.done; boxes = x.boxes; aside = x.aside }
 
 -- without a frame it rests
 abbrev pub state_in : List Activation → Fib → World → List ℕ → Woven_state
@@ -46,9 +46,9 @@ Outcome = List Deed → List Act → List ℕ → Woven_state
 
 -- with no deed and no pause to come it is over right before the action, in the same heap, and the action isn't counted yet
 abbrev pub StopsAt : Outcome → Action → Standing → Type 0
-StopsAt out a y = (acts : List Act) (more : List ℕ) → (w : World) × (out [] acts (0 ∷ more) ≡ WStop (Wants a w)) × (w.acts ≡ acts) × (w.heap ≡ y.heap) × (w.next ≡ y.next) × (w.done + 1 ≡ y.done)
+StopsAt out a y = (acts : List Act) (more : List ℕ) → (w : World) × (out [] acts (0 ∷ more) ≡ WStop (Wants a w)) × (w.acts ≡ acts) × (w.heap ≡ y.heap) × (w.next ≡ y.next) × (w.done + 1 ≡ y.done) × (w.aside ≡ y.aside)
 
--- with such a deed to come it stands so; a `get` uses up what is left of its pauses, and no other action does
+-- with such a deed to come it stands so; a `get` and a put that waits use up what is left of their pauses, and no other action does
 abbrev pub Leads : ℕ → Outcome → Deed → Standing → Type 0
 Leads t out d y = (rest : List Deed) (acts : List Act) (ps : List ℕ) → out (d ∷ rest) acts ps ≡ state_of t y rest (d.act ∷ acts) ps
 
@@ -60,7 +60,14 @@ abbrev pub Does : Setting → ℕ → Outcome → Next → Type 0
 Does set t out (Goes y) = (rest : List Deed) (acts : List Act) (ps : List ℕ) → out rest acts ps ≡ state_of t y rest acts ps
 Does set t out (Rests y) = (rest : List Deed) (acts : List Act) (ps : List ℕ) → out rest acts ps ≡ state_of t y rest acts ps
 Does set t out (Puts box root shape y) = StopsAt out (action.Puts box root shape) y × ((n : ℕ) → Leads t out (plain (act.Put box n shape)) (tree_left set.program root y))
-Does set t out (PutWaits box root shape y) = StopsAt out (action.PutWaits box root shape) y × ((n : ℕ) → Leads t out (plain (act.Put box n shape)) (tree_left set.program root y))
+Does set t out (PutWaits box root shape paused y) =
+    StopsAt out (action.PutWaits box root shape) y
+    × ((rest : List Deed) (acts : List Act) (k : ℕ) (ps : List ℕ) → out rest acts (suc k ∷ ps) ≡ state_of t (apart_at set.program root shape paused) rest acts (k ∷ ps))
+    × ((n : ℕ) → Leads t (λ rest acts ps. out rest acts (0 ∷ ps)) (plain (act.Put box n shape)) (tree_left set.program root y))
+Does set t out (PutsAgain box root shape full paused y) =
+    StopsAt out (action.PutWaits box root shape) full
+    × ((rest : List Deed) (acts : List Act) (k : ℕ) (ps : List ℕ) → out rest acts (suc k ∷ ps) ≡ state_of t paused rest acts (k ∷ ps))
+    × ((n : ℕ) → Leads t (λ rest acts ps. out rest acts (0 ∷ ps)) (plain (act.Put box n shape)) y)
 Does set t out (Bounds box most y) = StopsAt out (action.Bounds box most) y × Leads t out (plain (act.Bound box most)) y
 Does set t out (Gets box paused y) =
     StopsAt out (action.Gets box) y
@@ -83,7 +90,7 @@ Reaches set W marks t first deeds acts x =
 module _ (set : Setting) (W : Program) (marks : List (List Bool)) (t : ℕ) (first : List Deed → List ℕ → Woven_state) (deeds : List Deed) (acts : List Act) where
   -- for some pauses it is over right before the action, with no deed to come
   abbrev pub ComesTo : Action → Standing → Type 0
-  ComesTo a y = (ps : List ℕ) × (j : ℕ) × (w : World) × (wsteps set W marks j (first deeds ps) ≡ WStop (Wants a w)) × (w.acts ≡ acts) × (w.heap ≡ y.heap) × (w.next ≡ y.next) × (w.done + 1 ≡ y.done)
+  ComesTo a y = (ps : List ℕ) × (j : ℕ) × (w : World) × (wsteps set W marks j (first deeds ps) ≡ WStop (Wants a w)) × (w.acts ≡ acts) × (w.heap ≡ y.heap) × (w.next ≡ y.next) × (w.done + 1 ≡ y.done) × (w.aside ≡ y.aside)
 
   -- behind the deed it comes to stand so
   abbrev pub GoesOn : Deed → Standing → Type 0
@@ -92,14 +99,15 @@ module _ (set : Setting) (W : Program) (marks : List (List Bool)) (t : ℕ) (fir
   abbrev pub GoesOnWith : BoxName → Standing → Type 0
   GoesOnWith box y = (n : ℕ) (shape : List Token) (os : List Object) → built set.program OfMessage y.next shape ≡ Some os → GoesOn (took box n shape) (tree_came os y)
 
-  -- What comes of a fiber that does this next: where it goes on or rests it comes to stand so with the same deeds, and so where a `get`
-  -- pauses; before an action it is over, and behind its deed it comes to stand as it does then. It is nowhere where no verified code
+  -- What comes of a fiber that does this next: where it goes on or rests it comes to stand so with the same deeds, and so where a `get` or a
+  -- put that waits pauses; before an action it is over, and behind its deed it comes to stand as it does then. It is nowhere where no verified code
   -- comes, unless the machine is lost.
   abbrev pub Follows : Next → Type 0
   Follows (Goes y) = Reaches set W marks t first deeds acts y
   Follows (Rests y) = Reaches set W marks t first deeds acts y
   Follows (Puts box root shape y) = ComesTo (action.Puts box root shape) y × ((n : ℕ) → GoesOn (plain (act.Put box n shape)) (tree_left set.program root y))
-  Follows (PutWaits box root shape y) = ComesTo (action.PutWaits box root shape) y × ((n : ℕ) → GoesOn (plain (act.Put box n shape)) (tree_left set.program root y))
+  Follows (PutWaits box root shape paused y) = ComesTo (action.PutWaits box root shape) y × Reaches set W marks t first deeds acts (apart_at set.program root shape paused) × ((n : ℕ) → GoesOn (plain (act.Put box n shape)) (tree_left set.program root y))
+  Follows (PutsAgain box root shape full paused y) = ComesTo (action.PutWaits box root shape) full × Reaches set W marks t first deeds acts paused × ((n : ℕ) → GoesOn (plain (act.Put box n shape)) y)
   Follows (Bounds box most y) = ComesTo (action.Bounds box most) y × GoesOn (plain (act.Bound box most)) y
   Follows (Gets box paused y) = ComesTo (action.Gets box) y × Reaches set W marks t first deeds acts paused × GoesOnWith box y
   Follows (Probes box y) = ComesTo (action.Probes box) y × GoesOn (plain (act.Empty box)) (with_result (Some Null) y) × GoesOnWith box y

@@ -25,18 +25,18 @@ use Rattle.kilim_fiber_spec.specs.Fibers.{enter, new_fiber, wstarted}
 use Rattle.kilim_fiber_spec.specs.Form.{is_pausable}
 use Rattle.kilim_fiber_spec.specs.Links.{AllStand, AreReady, Forms, Leaf, Link, Lk, u_frames}
 use Rattle.kilim_fiber_spec.specs.Runs.{most_uncounted}
-use Rattle.kilim_fiber_spec.specs.Serves.{From, SelvesAreThere, Serves, is_leaf, leaf_receiver}
+use Rattle.kilim_fiber_spec.specs.Serves.{From, SelvesAreThere, Serves, MayPause, is_leaf, leaf_receiver, resting_heap}
 use Rattle.kilim_fiber_spec.specs.Thread.{Run, Stop, Thread, fetch, own_of, self_of, started}
 
--- What is left to be known: the receiver of a pausable method is in the heap, and where the thread stands at a leaf, the calls of all
+-- What is left to be known: the receiver of a pausable method is in the heap, and where the thread stands at a leaf that may pause, the calls of all
 -- frames below can be made again.
 abbrev pub CanPause : (set : Setting) (W : Program) (marks : List (List Bool)) → Forms set W marks → (Thread → Type 0) → Type 0
 CanPause set W marks form Typed =
     SelvesAreThere set Typed
     × ((m : MethodId) (p to : ℕ) (i : Instr) (callee : Method) (l s s2 args wl : List Value) (x : Value) (old : ℕ) (was : Value) (links : List Link) (w : World) (c : MethodId) (leaf : Native)
     → Typed (Run m p l s x (u_frames links) w) → fetch set.program m p ≡ Some (i, to) → pausable_callee set.program i ≡ Some callee
-    → does set.program (own_of set.program m) i to l s w.heap ≡ Asks c args to l s2 w.heap → native_of set.program c ≡ Some leaf → is_leaf leaf ≡ true → AllStand set W marks form links
-    → (w.kept ≡ None) × AreReady set W marks form w.heap (Leaf leaf) (leaf_receiver leaf args) (Lk m p to i callee s2 l wl x old was ∷ links))
+    → does set.program (own_of set.program m) i to l s w.heap ≡ Asks c args to l s2 w.heap → native_of set.program c ≡ Some leaf → is_leaf leaf ≡ true → AllStand set W marks form links → MayPause set leaf args w
+    → (w.kept ≡ None) × AreReady set W marks form (resting_heap set.program leaf args w.heap) (Leaf leaf) (leaf_receiver leaf args) (Lk m p to i callee s2 l wl x old was ∷ links))
 
 -- A fiber of the woven program does what the thread of a course does: wherever it stands with it; from the beginning of a method that
 -- isn't pausable, as a constructor's, on; and from where the `execute` of a started task begins, the task's own or the built-in one.

@@ -3,7 +3,7 @@ use Rattle.kilim_run_machine.specs.Natives as native
 use Rattle.kilim_fiber_steps.specs.declared.records.natives.natives.Member.{Member}
 use Rattle.kilim_fiber_steps.specs.declared.records.natives.natives.Member.TheVariants as member
 use Rattle.kilim_fiber_steps.specs.declared.records.natives.natives.Native.{Native}
-use Rattle.kilim_fiber_steps.specs.declared.records.natives.natives.Native.TheVariants.{Execute, Start, Put, Get, Getnb, Print, Yield, ArgCount, Arg, OfFiber}
+use Rattle.kilim_fiber_steps.specs.declared.records.natives.natives.Native.TheVariants.{Execute, Start, Put, PutWait, Bound, Get, Getnb, Print, Yield, ArgCount, Arg, OfFiber}
 
 abbrev pub member_meant : Member → native.FiberMember
 member_meant member.Pc = native.Pc
@@ -18,6 +18,8 @@ abbrev pub meaning : Native → native.Native
 meaning Execute = native.Execute
 meaning Start = native.Start
 meaning Put = native.Put
+meaning PutWait = native.PutWait
+meaning Bound = native.Bound
 meaning Get = native.Get
 meaning Getnb = native.Getnb
 meaning Print = native.Print

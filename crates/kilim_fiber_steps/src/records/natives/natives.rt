@@ -30,6 +30,10 @@ pub enum Native {
     Execute,
     Start,
     Put,
+    /// A put that waits where its mailbox is full.
+    PutWait,
+    /// The constructor that bounds a mailbox.
+    Bound,
     Get,
     Getnb,
     /// Of an int, of a long or of a string.
@@ -57,6 +61,12 @@ fn of_mailbox(name: &Units) -> Option<Native>
 {
     if name.is_text(b"put") {
         return Some(Native::Put);
+    }
+    if name.is_text(b"putw") {
+        return Some(Native::PutWait);
+    }
+    if name.is_text(b"<init>") {
+        return Some(Native::Bound);
     }
     if name.is_text(b"get") {
         return Some(Native::Get);

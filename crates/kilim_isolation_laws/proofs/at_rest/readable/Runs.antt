@@ -20,7 +20,7 @@ use Rattle.kilim_run_model.specs.Runs.{wait_entry}
 use Rattle.kilim_run_model.specs.Turn.{task_limit}
 use Rattle.kilim_run_model.specs.Moving.{Books, Moving, MovedAtRest, MovedReplay, books_after, books_by, books_empty, books_from, books_put, books_taken, first_books, further, is_tasks, waits_at, waits_from, with_deed}
 use Rattle.kilim_run_model.specs.declared.deed.Beginning.TheVariants.{Begun}
-use Rattle.kilim_isolation_laws.specs.at_rest.readable.Laws.{RunsAreReadable}
+use Rattle.kilim_isolation_laws.specs.at_rest.readable.Laws.{EntriesAreReadable, RunsAreReadable}
 use Rattle.kilim_isolation_laws.proofs.at_rest.readable.Deeds.{IsReadableDeed, course_read}
 
 -- the books after an entry: its task's course is one deed longer, and there may be new courses
@@ -177,9 +177,8 @@ within [] k x e = absurd (cc)
 within (y ∷ xs) zero x e = omega arith
 within (y ∷ xs) (suc k) x e = let l = within xs k x e in omega (arith, l)
 
-pub runs_readable : RunsAreReadable
-runs_readable set es waits v replay rest =
-    both_read es waits (books_read es first_books v.books replay.books all).0 (subst (λ (ws : List Entry). IsReadable ws) (sym rest.waiting) (waits_read set v.books 0 v.books.courses v.lones))
+pub entries_readable : EntriesAreReadable
+entries_readable set es v replay = (books_read es first_books v.books replay.books all).0
   where
     all : AllRead v.books
     all t c at =
@@ -187,3 +186,7 @@ runs_readable set es waits v replay rest =
         let n = replay.each in
         let l = get_some v.lones t (omega (arith, w, n)) in
         course_read set t c l.0 (replay.lones t c l.0 at l.1)
+
+pub runs_readable : RunsAreReadable
+runs_readable set es waits v replay rest =
+    both_read es waits (entries_readable set es v replay) (subst (λ (ws : List Entry). IsReadable ws) (sym rest.waiting) (waits_read set v.books 0 v.books.courses v.lones))

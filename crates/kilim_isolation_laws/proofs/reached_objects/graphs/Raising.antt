@@ -1,23 +1,17 @@
 -- Exceptions: a frame whose handler catches stands there, with the graph along the handler edge.
-use Rattle.std.proofs.Common.{◌≡◌, ℕ, zero, suc, ◌<◌, Bool, true, false, cond, List, [], ◌∷◌, map, length, Option, Some, None, Ok, refl, sym, ap, subst, ◌∙◌, inl, inr}
-use Rattle.std.specs.Prelude.{drop, ◌&&◌}
-use Rattle.std.specs.FinMap.{get, insert}
+use Rattle.std.proofs.Common.{◌≡◌, ℕ, suc, ◌<◌, Bool, true, false, cond, List, [], ◌∷◌, map, length, Option, Some, None, Ok, refl, sym, ap, subst, ◌∙◌}
 use Rattle.kilim_program.specs.declared.class.Handler.{Handler}
 use Rattle.kilim_program.specs.declared.class.Method.{Method}
 use Rattle.kilim_program.specs.declared.instr.Instr.{Instr}
 use Rattle.kilim_program.specs.declared.instr.Instr.TheVariants as instr
-use Rattle.kilim_run_state.specs.declared.value.Object.{Object}
 use Rattle.kilim_program.specs.declared.names.ClassId.{ClassId}
-use Rattle.kilim_program.specs.declared.names.MethodId.{MethodId}
 use Rattle.kilim_program.specs.declared.ty.Ty.{Ty}
 use Rattle.kilim_program.specs.declared.value.Value.{Value}
 use Rattle.kilim_program.specs.declared.value.Value.TheVariants.{Ref}
-use Rattle.kilim_program.specs.declared.verified.VType.TheVariants as vtype
-use Rattle.kilim_program.specs.BuiltIn.{class_type}
 use Rattle.kilim_program.specs.Lengths.{fetched}
 use Rattle.kilim_program.specs.Names.{method_at}
 use Rattle.kilim_program.specs.Program.{Program}
-use Rattle.kilim_run_state.specs.Machine.{Activation, Objects, stands_behind}
+use Rattle.kilim_run_state.specs.Machine.{Activation, Objects}
 use Rattle.kilim_type_spec.specs.Step.{Types, class_vtype, peek}
 use Rattle.kilim_type_spec.specs.Typed.{declared, has_code}
 use Rattle.kilim_isolation_graph.specs.declared.graph.Graph.{Graph}
@@ -27,17 +21,17 @@ use Rattle.kilim_isolation_laws.specs.forest.Canonical.{node_at}
 use Rattle.kilim_isolation_laws.specs.forest.Heap.{IsForest}
 use Rattle.kilim_isolation_laws.specs.forest.Laws.{IsPlace}
 use Rattle.kilim_isolation_laws.specs.forest.Relation.{Frames, Named, is_gone}
-use Rattle.kilim_isolation_laws.specs.forest.Steps.{after_arguments, IsNearly_tidy}
+use Rattle.kilim_isolation_laws.specs.forest.Steps.{after_arguments}
 use Rattle.kilim_isolation_laws.proofs.forest.Arguments.{arguments_behind, less_itself}
 use Rattle.kilim_isolation_laws.proofs.forest.Less.{IsLess, less_relates, less_respects}
 use Rattle.kilim_isolation_rules.specs.Calls.{after_call, all_passed, arguments, call_raises, handler_graph}
 use Rattle.kilim_isolation_rules.specs.declared.deed.Passed.{Passed}
 use Rattle.kilim_isolation_rules.specs.Rules.{raised_deed}
-use Rattle.kilim_isolation_laws.specs.graph_rows.Holds.{AllWait, AreSlots, Fits, HeapFits, Holds, IsOf, Own, SlotFits, SlotsFit, Stands, WaitFits, Waiting, named_by, object_sort, refers, sort, trees, unnamed, value_at, waiting_named}
+use Rattle.kilim_isolation_laws.specs.graph_rows.Holds.{AllWait, Fits, HeapFits, Holds, IsOf, Own, SlotFits, Stands, Waiting, named_by, sort, trees, unnamed, value_at, waiting_named}
 use Rattle.kilim_isolation_paths.specs.Paths.{Has}
 use Rattle.kilim_run_machine.specs.Raising.{call_in, catches, catches_class, caught_behind, caught_by, caught_in, covers, handler_of, lands, or_below, thrown, unwound}
-use Rattle.kilim_isolation.specs.Walks.{entry_graph, machine_of}
-use Rattle.kilim_isolation_laws.specs.reached_objects.graphs.Threads.{AllWaitFor, CaughtFit, Handled, IsSound, IsThrown, Listed, MethodKeeps, NewObjectsKeep, ThreadFits, ThrowsKeep, Typings, Waits}
+use Rattle.kilim_isolation.specs.Walks.{entry_graph}
+use Rattle.kilim_isolation_laws.specs.reached_objects.graphs.Threads.{AllWaitFor, CaughtFit, Handled, IsSound, IsThrown, Listed, NewObjectsKeep, ThreadFits, ThrowsKeep, Typings}
 use Rattle.kilim_isolation_laws.proofs.graph_rows.Making.{grown}
 use Rattle.kilim_isolation_laws.proofs.graph_rows.Calling.{less_tidy}
 use Rattle.kilim_isolation_laws.proofs.graph_rows.Heaps.{slot_grows}
@@ -226,9 +220,9 @@ module _ (p : Program) (typings : Typings) (listed : Listed) (kept : Option ℕ)
       (subst (λ z. CaughtFit p typings listed kept h (or_below (caught_behind p c (Ref n) a z) rest (unwound p c (Ref n) rest))) (sym one.stands)
       (subst (λ z. CaughtFit p typings listed kept h (or_below (caught_in p c (Ref n) a one.call.0 z) rest (unwound p c (Ref n) rest))) (sym one.is)
       (caught_or a one.call.0 w.method.handlers rest (unwound p c (Ref n) rest) (unwound_fit rest ws gives others heap forest fs.2 aw.1) (λ hd found.
-      landed a w.method one.is one.coded gives one.result one.first one.begins one.before w.graph w.at ws
-      (subst (λ z. Holds p w.method (record one.before { stack = [] }) (record w.graph { stack = [] }) w.at h z [] ws) one.locals
-      (sorts_hold p w.method w.types w.graph w.at h w.locals w.stack ws (record { heap = heap; forest = forest; frames = fs; tidy = aw.0.tidy; slots = aw.0.slots; waits = aw.1 }) one.before one.sorts))
+      landed a w.method one.is one.coded gives one.result one.first one.begins (typings a.method one.call.0) w.graph w.at ws
+      (subst (λ z. Holds p w.method (record (typings a.method one.call.0) { stack = [] }) (record w.graph { stack = [] }) w.at h z [] ws) one.locals
+      (sorts_hold p w.method w.types w.graph w.at h w.locals w.stack ws (record { heap = heap; forest = forest; frames = fs; tidy = aw.0.tidy; slots = aw.0.slots; waits = aw.1 }) (typings a.method one.call.0) one.sorts))
       hd (one.handled hd found.among found.covers_it) found.catches_it rest others))))
 
   -- the top frame throws

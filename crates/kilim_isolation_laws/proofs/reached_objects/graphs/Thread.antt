@@ -17,6 +17,7 @@ use Rattle.kilim_program.specs.Names.{method_at}
 use Rattle.kilim_run_machine.specs.Does.{does, throws_object}
 use Rattle.kilim_run_machine.specs.Effect.{Effect, Goes, Makes, Opens, Calls, Asks, Returns, Raises, Throws, Ends, Stuck}
 use Rattle.kilim_run_state.specs.Machine.{Activation, Objects, stands_behind}
+use Rattle.kilim_run_state.specs.Objects.{new_object}
 use Rattle.kilim_run_machine.specs.Moves.{Move, effect_found, effect_in, entered, frame_limit, goes_on, move_by, moves, push_result, returned}
 use Rattle.kilim_type_spec.specs.Step.{Types, peek, result_types, type_step, vtype}
 use Rattle.kilim_type_spec.specs.Typed.{Among, declared, edges, entry, has_code}
@@ -38,6 +39,7 @@ use Rattle.kilim_isolation_laws.specs.graph_rows.Holds.{sort, Holds, KindsFlow, 
 use Rattle.kilim_isolation_laws.specs.graph_rows.Outcome.{EffectHolds, Left, NativeHolds, ReturnHolds}
 use Rattle.kilim_isolation_laws.proofs.graph_rows.Fields.{slot_sort}
 use Rattle.kilim_isolation_laws.proofs.graph_rows.Giving.{given_left}
+use Rattle.kilim_isolation_laws.proofs.graph_rows.Making.{waiting_grown, zero_holds}
 use Rattle.kilim_isolation_laws.proofs.graph_rows.Passed.{moves_passed, ok_is, rule_passed}
 use Rattle.kilim_isolation_laws.proofs.graph_rows.Results.{IsNews, back, none_below, pushed_value, value_comes}
 use Rattle.kilim_isolation_laws.proofs.graph_rows.Settle.{not_true}
@@ -104,7 +106,6 @@ module _ (p : Program) (typings : Typings) (listed : Listed) (kept : Option ℕ)
     comes_to_wait q a behind w method gets types graph raised sorts ls st locals stack = record {
       call = (pl, i);
       stands = ap (λ (z : Method). stands_behind z.code z.code_length q) method ∙ ap (stands_behind m.code m.code_length) behind ∙ (s.methods id m is coded).behind pl to i here;
-      before = typings id pl;
       sorts = λ k. subst (λ z. sort p z (peek w.types.locals k) ≡ sort p z (peek (typings id pl).locals k)) (sym method) (sorts k);
       handled = λ hd has covering. subst (λ z. Handled p z (typings id) (listed id) first (typings id pl) (handler_graph w.graph) hd) (sym method)
           (subst (λ z. Handled p m (typings id) (listed id) first (typings id pl) z hd) raised
@@ -271,12 +272,14 @@ module _ (p : Program) (typings : Typings) (listed : Listed) (kept : Option ℕ)
         callee = w.callee;
         is = w.is;
         done = λ none. goes None none h' st (w.at, waiting);
-        raises = λ c n thrown. unwound_fit p typings listed kept s h' c n thrown (goes_on top place ls st ∷ frames) (mid_waiting ∷ t.below) w.callee.result (
-          t.top_fits.method.result,
-          comes_to_wait top.method t.top_fits.method t.top_fits.is t.top_fits.coded t.top_fits.first t.top_fits.begins top.place t.top_fits.graph t.top_fits.reaches i to here flows.0 flows.1 place among behind mid_waiting refl
-              w.callee.result w.after w.left w.raised_is (λ k. ap (λ (z : Types). sort p t.top_fits.method (peek z.locals k)) (sym w.before)) ls st refl refl,
-          subst (AllWaitFor p typings listed kept frames t.below) (sym t.top_fits.gives) t.waits,
-        ) w.stands.holds.heap w.stands.holds.forest w.frames (w.waits, w.stands.holds.waits);
+        raises = λ c n free object thrown.
+            let more = waiting_grown p h' n (new_object p c) free (zero_holds p c) w.stands.holds.heap w.stands.holds.forest mid_waiting t.below w.frames (w.waits, w.stands.holds.waits) object in
+            unwound_fit p typings listed kept s (insert h' n (new_object p c)) c n thrown (goes_on top place ls st ∷ frames) (mid_waiting ∷ t.below) w.callee.result (
+              t.top_fits.method.result,
+              comes_to_wait top.method t.top_fits.method t.top_fits.is t.top_fits.coded t.top_fits.first t.top_fits.begins top.place t.top_fits.graph t.top_fits.reaches i to here flows.0 flows.1 place among behind mid_waiting refl
+                  w.callee.result w.after w.left w.raised_is (λ k. ap (λ (z : Types). sort p t.top_fits.method (peek z.locals k)) (sym w.before)) ls st refl refl,
+              subst (AllWaitFor p typings listed kept frames t.below) (sym t.top_fits.gives) t.waits,
+            ) more.heap more.forest more.frames more.waits;
         answered = λ ty v is fits null. goes (Some ty) is h' (v ∷ st)
             (value_comes p t.top_fits.method (record w.types { stack = drop w.takes w.types.stack }) (popped w.takes (after_call p w.passed w.graph)) w.at h' ls st t.below waiting w.waits.within ty v fits (λ kd. null_news v (null kd)));
         whole = λ o q.

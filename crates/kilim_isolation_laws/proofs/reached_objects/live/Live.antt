@@ -1,6 +1,6 @@
 -- A local that is live names nothing that was given away: a slot that does so names it until it is written, and the first
 -- instruction that reads it would break a rule.
-use Rattle.std.proofs.Common.{◌≡◌, ℕ, Bool, true, false, eqb, refl, ap, sym, ◌∙◌, subst, true≢false, List, [], ◌∷◌, Option, Some, None, Ok}
+use Rattle.std.proofs.Common.{◌≡◌, ℕ, Bool, true, false, eqb, refl, ap, sym, ◌∙◌, subst, true≢false, List, Option, Some, None, Ok}
 use Rattle.std.specs.Prelude.{nat_lt}
 use Rattle.std.proofs.lemmas.Bool.{and_parts, eqb-true}
 use Rattle.kilim_program.specs.declared.class.Handler.{Handler}
@@ -74,7 +74,7 @@ module _ (p : Program) (id : MethodId) (m : Method) (typing : ℕ → Types) (fs
       (reaches_more (machine_of p m fs a.goes.first) at g (exit.Handler h.at) h.at goes.0 r refl out goes.1)
 
   -- each local before an instruction flows into the frame at its handler
-  lands : (at next : ℕ) (i : Instr) → fetched m.code m.code_length at ≡ Some (i, next) → (h : Handler) → Has m.handlers h → covers h at ≡ true → Lands p m typing at h
+  pub lands : (at next : ℕ) (i : Instr) → fetched m.code m.code_length at ≡ Some (i, next) → (h : Handler) → Has m.handlers h → covers h at ≡ true → Lands p m typing at h
   lands at next i is h has covering = handlers_flow p a.keeps m typing a.well at next has.0 i h is has.1 covering
 
   -- ---- names and numbers
@@ -152,7 +152,7 @@ module _ (p : Program) (id : MethodId) (m : Method) (typing : ℕ → Types) (fs
   read_lives at k (Iinc j by) g seen left r t there are n e = absurd (true≢false (sym (number_added at j k left t r) ∙ are k n e))
   read_lives at k i g seen left r t there are n e = absurd (true≢false (sym r))
 
-  has_type : (q k : ℕ) (o : Option Types) → is_code_place m.code q ≡ true → declared m q ≡ o → is_top (peek (typing q).locals k) ≡ false → HasType o k
+  pub has_type : (q k : ℕ) (o : Option Types) → is_code_place m.code q ≡ true → declared m q ≡ o → is_top (peek (typing q).locals k) ≡ false → HasType o k
   has_type q k None place is typed = tt
   has_type q k (Some d) place is typed = ap (λ (z : Types). is_top (peek z.locals k)) (sym (declared_is p m typing a.well q d place is)) ∙ typed
 

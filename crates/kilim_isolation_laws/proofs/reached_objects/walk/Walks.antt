@@ -1,13 +1,19 @@
 -- The rules let pass under the types at the places what they let pass under the listed frames.
 use Rattle.std.proofs.Common.{◌≡◌, ℕ, Bool, true, false, not, ◌||◌, cond, eqb, refl, ap, sym, ◌∙◌, subst, true≢false, List, [], ◌∷◌, Option, Some, None, Ok}
+use Rattle.kilim_program.specs.declared.class.Handler.{Handler}
 use Rattle.kilim_program.specs.declared.class.Method.{Method}
+use Rattle.kilim_program.specs.declared.names.ClassId.{ClassId}
+use Rattle.kilim_program.specs.declared.names.MethodId.{MethodId}
+use Rattle.kilim_program.specs.Keeps.{Keeps}
+use Rattle.kilim_program.specs.Names.{method_at}
 use Rattle.kilim_program.specs.declared.instr.Instr.{Instr}
 use Rattle.kilim_program.specs.declared.verified.Frame.{Frame}
 use Rattle.kilim_program.specs.declared.verified.VType.{VType}
 use Rattle.kilim_program.specs.Lengths.{fetched, first_place, is_code_place}
 use Rattle.kilim_program.specs.Program.{Program}
-use Rattle.kilim_type_spec.specs.Step.{Types, peek}
-use Rattle.kilim_type_spec.specs.Typed.{declared}
+use Rattle.kilim_type_spec.specs.Step.{Types, class_vtype, peek}
+use Rattle.kilim_type_spec.specs.Typed.{covers, declared, has_code}
+use Rattle.kilim_type_spec.specs.TypedProgram.{KeepsTyped, TypedProgram}
 use Rattle.kilim_type_laws.specs.Laws.{typing_at}
 use Rattle.kilim_type_laws.proofs.ByPlace.{typed_by_place}
 use Rattle.kilim_type_laws.proofs.Listed.{listed_frames_show}
@@ -16,8 +22,14 @@ use Rattle.kilim_isolation_paths.specs.Paths.{Has, Reaches}
 use Rattle.kilim_isolation_graph.specs.declared.graph.Graph.{Graph}
 use Rattle.kilim_isolation_graph.specs.Canonical.{canonical_at}
 use Rattle.kilim_isolation_rules.specs.declared.deed.Deed.{Deed}
-use Rattle.kilim_isolation_rules.specs.Rules.{any_flow_mixes, deed, judged, left_by, moves}
+use Rattle.kilim_isolation_rules.specs.Marks.{is_tree}
+use Rattle.kilim_isolation_rules.specs.Rules.{any_flow_mixes, deed, judged, left_by, moves, raised_deed}
 use Rattle.kilim_isolation_pauses.specs.Pausing.{frames_at}
+use Rattle.kilim_isolation.specs.Laws.{GoesOn}
+use Rattle.kilim_run_machine.specs.Raising.{is_throwable}
+use Rattle.kilim_type_sound.proofs.Caught.{caught_here}
+use Rattle.kilim_isolation_laws.specs.reached_objects.graphs.Threads.{Becomes, Handled}
+use Rattle.kilim_isolation_laws.proofs.reached_objects.graphs.FromSteps.{handled_from}
 use Rattle.kilim_isolation.specs.Walks.{declared_to, exits_by, machine_of, types_at, types_of}
 use Rattle.kilim_isolation_laws.specs.reached_objects.live.Laws.{IsAcceptedBy}
 use Rattle.kilim_isolation_laws.proofs.reached_objects.live.Along.{by_among}
@@ -78,6 +90,31 @@ module _ (p : Program) (m : Method) (fs : List Frame) (f seen : Types) (locals :
       ∙ (ap (λ (b : Bool). judged (deed p m g seen i) b) (no_flow_either i next to exit none ∙ sym none)
       ∙ (goes ∙ ap (λ (d : Deed). Ok d.graph) (sym (same_deed g i))))
 
+-- the types at a place and those that are listed for it
+record AreSeen (m : Method) (f seen : Types) : Type 0 where
+  locals : AgreeLocals f.locals seen.locals
+  stack : f.stack ≡ seen.stack
+
+seen_at : (t : TypedProgram) → KeepsTyped t → Keeps t.program → (id : MethodId) (m : Method) → method_at t.program id ≡ Some m → has_code m ≡ true → (at next : ℕ) (i : Instr) → fetched m.code m.code_length at ≡ Some (i, next) → AreSeen m (typing_at t.program id at) (types_at m (frames_at t id) at)
+seen_at t typed keeps id m is coded at next i there =
+    let p = t.program in
+    let fs = frames_at t id in
+    let place = place_of m.code m.code_length at (i, next) there in
+    let shows = (listed_frames_show p m (typing_at p id) (typed_by_place p keeps typed.typed id m is coded) at place).1 in
+    let seen_is = ap types_of (frames_are_listed t typed keeps id m is at place) in
+    record { locals = λ j. sym (ap (λ (z : Types). peek z.locals j) seen_is ∙ shows.locals j); stack = sym (ap (λ (z : Types). z.stack) seen_is ∙ shows.stack) }
+
+-- along the edge to a handler, too
+pub handled_by_types : (t : TypedProgram) → KeepsTyped t → Keeps t.program → ((c : ClassId) → is_throwable t.program c ≡ true → is_tree t.program (class_vtype c) ≡ false) → (id : MethodId) (m : Method) → method_at t.program id ≡ Some m → has_code m ≡ true →
+    (goes : GoesOn t.program m (frames_at t id)) → (at next : ℕ) (i : Instr) (g : Graph) → Reaches (machine_of t.program m (frames_at t id) goes.first) at g → fetched m.code m.code_length at ≡ Some (i, next) → (hd : Handler) → Has m.handlers hd → covers hd at ≡ true →
+    Handled t.program m (typing_at t.program id) (frames_at t id) goes.first (typing_at t.program id at) (raised_deed t.program g (typing_at t.program id at) i).graph hd
+handled_by_types t typed keeps private id m is coded goes at next i g reaches there hd has covering =
+    let p = t.program in
+    let seen = seen_at t typed keeps id m is coded at next i there in
+    let caught = caught_here p keeps m (typing_at p id) (typed_by_place p keeps typed.typed id m is coded) at next i there has.0 hd has.1 covering in
+    handled_from p m (typing_at p id) (frames_at t id) goes.first private at g seen.locals seen.stack reaches (λ e out. goes.goes at g e reaches out) i next there hd has covering
+    (λ c throwable catching. subst (λ (o : Option Types). Becomes p (record (typing_at p id at) { stack = class_vtype c ∷ [] }) o (typing_at p id hd.at)) (sym caught.there) (caught.is, caught.flows c throwable catching))
+
 pub walks_by_types : WalksByTypes
 walks_by_types t typed keeps id m is coded goes at next i g to reaches there exit =
     let p = t.program in
@@ -86,12 +123,8 @@ walks_by_types t typed keeps id m is coded goes at next i g to reaches there exi
     let well = typed_by_place p keeps typed.typed id m is coded in
     let a : IsAcceptedBy p id m typing fs = record { keeps = keeps; is = is; coded = coded; well = well; goes = goes } in
     let w = passes p id m typing fs a at next i g to reaches there exit in
-    let place = place_of m.code m.code_length at (i, next) there in
-    let shows = (listed_frames_show p m typing well at place).1 in
-    let seen_is = ap types_of (frames_are_listed t typed keeps id m is at place) in
-    let locals : AgreeLocals (typing at).locals (types_at m fs at).locals = λ j. sym (ap (λ (z : Types). peek z.locals j) seen_is ∙ shows.locals j) in
-    let stack : (typing at).stack ≡ (types_at m fs at).stack = sym (ap (λ (z : Types). z.stack) seen_is ∙ shows.stack) in
+    let seen = seen_at t typed keeps id m is coded at next i there in
     record {
-      moved = moves_too p m fs (typing at) (types_at m fs at) locals stack g i next to exit w.moves_on;
-      comes = λ q e. subst (λ (z : Graph). Reaches (machine_of p m fs goes.first) q (canonical_at (declared m q) z)) (sym (ap (λ (d : Deed). d.graph) (same_deed p m fs (typing at) (types_at m fs at) locals stack g i))) (w.comes q e);
+      moved = moves_too p m fs (typing at) (types_at m fs at) seen.locals seen.stack g i next to exit w.moves_on;
+      comes = λ q e. subst (λ (z : Graph). Reaches (machine_of p m fs goes.first) q (canonical_at (declared m q) z)) (sym (ap (λ (d : Deed). d.graph) (same_deed p m fs (typing at) (types_at m fs at) seen.locals seen.stack g i))) (w.comes q e);
     }

@@ -109,10 +109,13 @@ module _ (set : Setting) (typing : Typing) (live : Wanted) (is : IsVerified set 
 
   -- an effect that fits, of a method whose stack isn't too high
   record Sound (m : Method) (wanted : ℕ → ℕ → Bool) (e : Effect) : Type 0 where
+    next : ℕ
+    before : List Value
+    now : Objects
     to : List ℕ
     types : Types
     low : words types.stack ≤ m.max_stack
-    fits : EffectFits p m of wanted to types e
+    fits : EffectFits p m of wanted next before now to types e
 
   -- ---- the typed stack of a frame that fits
 
@@ -152,6 +155,9 @@ module _ (set : Setting) (typing : Typing) (live : Wanted) (is : IsVerified set 
             let well = is.verified.typed top.method m frame.there frame.code in
             let at : Stands p m (typing top.method) top.place found.0 found.1 = stands_at p m (typing top.method) well top.place found.0 found.1 e in
             record {
+              next = found.1;
+              before = top.locals;
+              now = h;
               to = _;
               types = at.after;
               low = step_low p m top.place found.0 (typing top.method top.place) at.after at.step (frame_low Nothing top frame);

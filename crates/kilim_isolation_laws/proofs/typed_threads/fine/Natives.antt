@@ -1,5 +1,5 @@
 -- What each built-in method gives, by what it does.
-use Rattle.std.proofs.Common.{◌≡◌, ℕ, ◌+◌, true, List, length, Option, Some, None, refl, sym, ap, subst, ◌∙◌, arith}
+use Rattle.std.proofs.Common.{◌≡◌, ℕ, ◌+◌, true, List, [], length, Option, Some, None, refl, sym, ap, subst, ◌∙◌, arith}
 use Rattle.std.specs.Prelude.{slice_get, codes}
 use Rattle.std.specs.List.{AllByRecursion}
 use Rattle.kilim_program.specs.declared.class.Form.TheVariants.{Plain}
@@ -7,10 +7,11 @@ use Rattle.kilim_program.specs.declared.class.Form.{Form}
 use Rattle.kilim_program.specs.declared.class.Method.{Method}
 use Rattle.kilim_program.specs.declared.names.MethodId.{MethodId}
 use Rattle.kilim_program.specs.declared.ty.Ty.{Ty}
-use Rattle.kilim_program.specs.BuiltIn.{built_in_methods_in, class_id, class_type, int_type}
+use Rattle.kilim_program.specs.BuiltIn.{built_in_constructor, built_in_methods_in, class_id, class_type, exception_numbers, int_type}
 use Rattle.kilim_program.specs.Keeps.{Keeps}
 use Rattle.kilim_program.specs.Names.{◌>>=◌, class_name, method_at}
 use Rattle.kilim_program.specs.Program.{Program}
+use Rattle.kilim_program.proofs.BuiltIns.{constructors_too}
 use Rattle.kilim_run_machine.specs.Natives.{Native, native_in, native_method, native_of}
 use Rattle.kilim_run_machine.specs.Natives as native
 use Rattle.kilim_type_sound.proofs.BuiltInMembers.{NamedAt, built_in_at, named_at, none_built_in}
@@ -48,7 +49,7 @@ module _ (p : Program) (first : ℕ) where
 module _ (p : Program) (n : ℕ) (object : class_name p (class_id n) ≡ codes "java/lang/Object") (string : class_name p (class_id (n + 1)) ≡ codes "java/lang/String") (task : class_name p (class_id (n + 4)) ≡ codes "kilim/Task")
     (mailbox : class_name p (class_id (n + 5)) ≡ codes "kilim/Mailbox") (sys : class_name p (class_id (n + 6)) ≡ codes "kilim/Sys") where
   all_give : AllByRecursion (GivesAs p n) (built_in_methods_in Plain n)
-  all_give = (as_none p n _ (codes "java/lang/Object") object refl, (as_none p n _ (codes "java/lang/String") string refl, (as_none p n _ (codes "java/lang/String") string refl, (as_none p n _ (codes "java/lang/String") string refl, (as_none p n _ (codes "kilim/Task") task refl, (as_some p n _ (codes "kilim/Task") native.Start task refl refl, (as_some p n _ (codes "kilim/Task") native.Execute task refl refl, (as_none p n _ (codes "kilim/Mailbox") mailbox refl, (as_some p n _ (codes "kilim/Mailbox") native.Put mailbox refl refl, (as_some p n _ (codes "kilim/Mailbox") native.Get mailbox refl refl, (as_some p n _ (codes "kilim/Mailbox") native.Getnb mailbox refl refl, (as_some p n _ (codes "kilim/Sys") native.Print sys refl refl, (as_some p n _ (codes "kilim/Sys") native.Print sys refl refl, (as_some p n _ (codes "kilim/Sys") native.Print sys refl refl, (as_some p n _ (codes "kilim/Sys") native.Yield sys refl refl, (as_some p n _ (codes "kilim/Sys") native.ArgCount sys refl refl, (as_some p n _ (codes "kilim/Sys") native.Arg sys refl refl, (as_none p n _ (codes "kilim/Sys") sys refl, tt))))))))))))))))))
+  all_give = (as_none p n _ (codes "java/lang/Object") object refl, (as_none p n _ (codes "java/lang/String") string refl, (as_none p n _ (codes "java/lang/String") string refl, (as_none p n _ (codes "java/lang/String") string refl, (as_none p n _ (codes "kilim/Task") task refl, (as_some p n _ (codes "kilim/Task") native.Start task refl refl, (as_some p n _ (codes "kilim/Task") native.Execute task refl refl, (as_none p n _ (codes "kilim/Mailbox") mailbox refl, (as_some p n _ (codes "kilim/Mailbox") native.Put mailbox refl refl, (as_some p n _ (codes "kilim/Mailbox") native.Get mailbox refl refl, (as_some p n _ (codes "kilim/Mailbox") native.Getnb mailbox refl refl, (as_some p n _ (codes "kilim/Sys") native.Print sys refl refl, (as_some p n _ (codes "kilim/Sys") native.Print sys refl refl, (as_some p n _ (codes "kilim/Sys") native.Print sys refl refl, (as_some p n _ (codes "kilim/Sys") native.Yield sys refl refl, (as_some p n _ (codes "kilim/Sys") native.ArgCount sys refl refl, (as_some p n _ (codes "kilim/Sys") native.Arg sys refl refl, (as_none p n _ (codes "kilim/Sys") sys refl, constructors_too (GivesAs p n) n exception_numbers [] (λ c. as_none p n (built_in_constructor c) (class_name p c) refl refl) tt))))))))))))))))))
 
 -- ---- of a program in plain form
 

@@ -21,6 +21,7 @@ use Rattle.kilim_program.specs.Kinds.{kind_of}
 use Rattle.kilim_program.specs.Lengths.{fetched}
 use Rattle.kilim_program.specs.Names.{method_at}
 use Rattle.kilim_run_state.specs.Machine.{Activation, Objects, stands_behind}
+use Rattle.kilim_run_state.specs.Objects.{new_object}
 use Rattle.kilim_run_machine.specs.Moves.{Move, entered, moves, push_value}
 use Rattle.kilim_run_machine.specs.Moves as move
 use Rattle.kilim_type_spec.specs.Step.{Types, class_vtype, peek, result_types, type_step}
@@ -115,12 +116,11 @@ pub record Waits (p : Program) (typings : Typings) (listed : Listed) (a : Activa
   pub types : Becomes p (record w.types { stack = result_types gets ++ w.types.stack }) (declared w.method a.place) (typings a.method a.place)
   pub flow : (d : Types) → declared w.method a.place ≡ Some d → flow_mixes p (record w.types { stack = result_types gets ++ w.types.stack }) d ≡ false
   pub live : stack_lives (given_result p gets w.graph) ≡ true
-  -- at each handler that covers its call: the types of its locals before the call, of the same sorts as those behind it
+  -- at each handler that covers its call: the types of its locals before the call are of the same sorts as those behind it
   pub call : ℕ × Instr
   pub stands : stands_behind w.method.code w.method.code_length a.place ≡ Some call
-  pub before : Types
-  pub sorts : (k : ℕ) → sort p w.method (peek w.types.locals k) ≡ sort p w.method (peek before.locals k)
-  pub handled : (hd : Handler) → Has w.method.handlers hd → covers hd call.0 ≡ true → Handled p w.method (typings a.method) (listed a.method) first before (handler_graph w.graph) hd
+  pub sorts : (k : ℕ) → sort p w.method (peek w.types.locals k) ≡ sort p w.method (peek (typings a.method call.0).locals k)
+  pub handled : (hd : Handler) → Has w.method.handlers hd → covers hd call.0 ≡ true → Handled p w.method (typings a.method) (listed a.method) first (typings a.method call.0) (handler_graph w.graph) hd
 
 -- The object that task 0 keeps stands below all frames: one safe node, which nothing changes.
 abbrev pub keeper : ℕ → Waiting
@@ -193,8 +193,8 @@ pub record AskFits (p : Program) (typings : Typings) (listed : Listed) (kept : O
   -- the tree that is given is whole: nothing holds it
   pub whole : (o : ℕ) → Gives p (parameters_of callee) args o → ((trees p h).has o ≡ true) × ((q i : ℕ) → (trees p h).to q i ≡ Some o → ⊥)
   pub gives : callee.result ≡ None → (o : ℕ) → Gives p (parameters_of callee) args o → (h' : Objects) → IsGivenAway p h h' o → FramesFit p typings listed kept h' frames
-  -- it raises: its frame stands behind the call, without the result
-  pub raises : (c : ClassId) (n : ℕ) → IsThrown p h c n → CaughtFit p typings listed kept h (unwound p c (Ref n) frames)
+  -- it raises, with a new object: its frame stands behind the call, without the result
+  pub raises : (c : ClassId) (n : ℕ) → get h n ≡ None → ObjectFits p (insert h n (new_object p c)) (new_object p c) → IsThrown p (insert h n (new_object p c)) c n → CaughtFit p typings listed kept (insert h n (new_object p c)) (unwound p c (Ref n) frames)
   pub comes : (ty : Ty) → callee.result ≡ Some ty → (h' : Objects) (n dims : ℕ) → (stuff : Rattle.kilim_isolation_laws.specs.graph_rows.Holds.Stuff) → IsTaken p h h' n dims stuff → type_sort p ty ≡ Tree dims stuff → kind_of p ty ≡ kind.Tree →
       FramesFit p typings listed kept h' (push_value (Ref n) frames)
 

@@ -2,7 +2,7 @@ use Rattle.std.proofs.Common.{◌≡◌, ◌∙◌, Some, ap, refl, sym}
 use Rattle.kilim_run_journal.specs.declared.entry.Act.{Act}
 use Rattle.kilim_replay_thread.specs.Live.{lone_at}
 use Rattle.kilim_replay_thread.specs.Reach.{setting_of}
-use Rattle.kilim_replay.proofs.Stepping.{can_do, can_reach, did_act, has_waits, next_at, views_here, waits}
+use Rattle.kilim_replay.proofs.Stepping.{can_do, can_reach, did_act, next_at, views_here, waits}
 use Rattle.kilim_replay.proofs.Differing.{is_so, not_so}
 use Rattle.kilim_run_model.specs.Turn.{with_lone}
 use Rattle.kilim_replay.proofs.fold.step_live.Goals as goal
@@ -17,10 +17,9 @@ returns-then-has_to_wait-clause-stepped c = λ s run views.
     let set = setting_of c.args.program.now c.args.main c.args.limits.now in
     let t = c.args.entry.now.task in
     let m = c.args.machine.now in
-    let waiting = has_waits m.mailboxes c.in-Ok.came (sym c.has_to_wait.ensures ∙ c.if-has_to_wait.true) in
     waits set t m.world m.tasks.items m.mailboxes c.args.live s run views c.requires.task c.reach.new.world c.reach.new.live c.in-Ok.came
     (next_at set t m.world m.tasks.items m.mailboxes c.args.live s run views c.requires.task c.reach.new.world c.reach.new.live c.in-Ok.came c.in-Ok.ensures.reaches c.in-Ok.ensures.coming)
-    c.in-Ok.ensures.kept waiting.box waiting.is waiting.empty
+    c.in-Ok.ensures.kept (sym c.has_to_wait.ensures ∙ c.if-has_to_wait.true)
 
 pub perform-requires-clause-can : goal.perform-requires-clause-can
 perform-requires-clause-can c =

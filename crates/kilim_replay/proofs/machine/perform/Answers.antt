@@ -1,9 +1,10 @@
-use Rattle.std.proofs.Common.{subst, sym, arith}
+use Rattle.std.proofs.Common.{subst, sym, arith, ◌∙◌}
+use Rattle.kilim_run_state.specs.declared.cause.EndCause.TheVariants as cause
 use Rattle.kilim_program.specs.Program.{Program}
 use Rattle.kilim_replay_thread.specs.Comes.{HasRoomFor}
 use Rattle.kilim_replay.specs.Machine.{CanDo, HasStarted, IsNextOf}
 use Rattle.kilim_replay_thread.specs.declared.task.Came.{Came}
-use Rattle.kilim_replay.proofs.Doing.{did_end, did_get, did_print, did_probe, did_put, did_start, did_start_none}
+use Rattle.kilim_replay.proofs.Doing.{did_bound, did_end, did_get, did_print, did_probe, did_put, did_put_full, did_put_wait, did_start, did_start_none}
 use Rattle.kilim_replay.proofs.Folding.{over_ok}
 use Rattle.kilim_replay.proofs.machine.perform.Goals as goal
 
@@ -13,10 +14,43 @@ put-requires-clause-frames c = subst (HasRoomFor c.args.program.now c.args.machi
 pub put-requires-clause-counts : goal.put-requires-clause-counts
 put-requires-clause-counts c = subst (CanDo c.args.machine.now.mailboxes c.args.live.done) c.in-Puts.is c.requires.can
 
-pub returns-in-Puts-clause-done : goal.returns-in-Puts-clause-done
-returns-in-Puts-clause-done c = λ set s n is views next.
+pub returns-then-is_full-clause-done : goal.returns-then-is_full-clause-done
+returns-then-is_full-clause-done c = λ set s n is views next.
+    did_put_full set c.args.task c.args.machine.now c.args.live s views c.end.new.machine c.end.result c.in-Puts.name c.in-Puts.root c.in-Puts.shape n
+    (subst (λ (x : Came). IsNextOf c.args.task c.args.machine.now.world c.args.live x n) c.in-Puts.is next) (sym c.is_full.ensures ∙ c.if-is_full.true) c.end.ensures
+
+pub returns-else-is_full-clause-done : goal.returns-else-is_full-clause-done
+returns-else-is_full-clause-done c = λ set s n is views next.
     over_ok _ _ c.put.result c.put.ensures.put (λ act put.
-    did_put set c.args.task c.args.machine.now c.args.live s views c.put.new.machine act c.in-Puts.name c.in-Puts.root c.in-Puts.shape n (subst (λ (x : Came). IsNextOf c.args.task c.args.machine.now.world c.args.live x n) c.in-Puts.is next) put)
+    did_put set c.args.task c.args.machine.now c.args.live s views c.put.new.machine act c.in-Puts.name c.in-Puts.root c.in-Puts.shape n (subst (λ (x : Came). IsNextOf c.args.task c.args.machine.now.world c.args.live x n) c.in-Puts.is next)
+    (sym c.is_full.ensures ∙ c.if-is_full.false) put)
+
+pub put-requires-in-PutsWaiting-clause-frames : goal.put-requires-in-PutsWaiting-clause-frames
+put-requires-in-PutsWaiting-clause-frames c = subst (HasRoomFor c.args.program.now c.args.machine.now.world c.args.live) c.in-PutsWaiting.is c.requires.room
+
+pub put-requires-in-PutsWaiting-clause-counts : goal.put-requires-in-PutsWaiting-clause-counts
+put-requires-in-PutsWaiting-clause-counts c = (subst (CanDo c.args.machine.now.mailboxes c.args.live.done) c.in-PutsWaiting.is c.requires.can).1
+
+pub returns-in-PutsWaiting-clause-done : goal.returns-in-PutsWaiting-clause-done
+returns-in-PutsWaiting-clause-done c = λ set s n is views next.
+    over_ok _ _ c.put-in-PutsWaiting.result c.put-in-PutsWaiting.ensures.put (λ act put.
+    did_put_wait set c.args.task c.args.machine.now c.args.live s views c.put-in-PutsWaiting.new.machine act c.in-PutsWaiting.name c.in-PutsWaiting.root c.in-PutsWaiting.shape n
+    (subst (λ (x : Came). IsNextOf c.args.task c.args.machine.now.world c.args.live x n) c.in-PutsWaiting.is next) (subst (CanDo c.args.machine.now.mailboxes c.args.live.done) c.in-PutsWaiting.is c.requires.can).0 put)
+
+pub returns-in-TooLarge-clause-done : goal.returns-in-TooLarge-clause-done
+returns-in-TooLarge-clause-done c = λ set s n is views next.
+    did_end set c.args.task c.args.machine.now c.args.live s views c.end-in-TooLarge.new.machine c.end-in-TooLarge.result cause.Large n (subst (λ (x : Came). IsNextOf c.args.task c.args.machine.now.world c.args.live x n) c.in-TooLarge.is next) c.end-in-TooLarge.ensures
+
+pub bound-requires-clause-frames : goal.bound-requires-clause-frames
+bound-requires-clause-frames c = subst (HasRoomFor c.args.program.now c.args.machine.now.world c.args.live) c.in-Bounds.is c.requires.room
+
+pub bound-requires-clause-counts : goal.bound-requires-clause-counts
+bound-requires-clause-counts c = subst (CanDo c.args.machine.now.mailboxes c.args.live.done) c.in-Bounds.is c.requires.can
+
+pub returns-in-Bounds-clause-done : goal.returns-in-Bounds-clause-done
+returns-in-Bounds-clause-done c = λ set s n is views next.
+    over_ok _ _ c.bound.result c.bound.ensures.bounded (λ act bounded.
+    did_bound set c.args.task c.args.machine.now c.args.live s views c.bound.new.machine act c.in-Bounds.name c.in-Bounds.most n (subst (λ (x : Came). IsNextOf c.args.task c.args.machine.now.world c.args.live x n) c.in-Bounds.is next) bounded)
 
 pub receive-requires-clause-some : goal.receive-requires-clause-some
 receive-requires-clause-some c = (subst (CanDo c.args.machine.now.mailboxes c.args.live.done) c.in-Takes.is c.requires.can).0
@@ -67,5 +101,5 @@ returns-then-len-lt-MOST_TASKS-clause-done c = λ set s n is views next.
 
 pub returns-else-len-lt-MOST_TASKS-clause-done : goal.returns-else-len-lt-MOST_TASKS-clause-done
 returns-else-len-lt-MOST_TASKS-clause-done c = λ set s n is views next.
-    did_start_none set c.args.task c.args.machine.now c.args.live s views c.end.new.machine c.end.result c.in-Starts.root c.in-Starts.shape n
-    (subst (λ (x : Came). IsNextOf c.args.task c.args.machine.now.world c.args.live x n) c.in-Starts.is next) (omega arith) c.end.ensures
+    did_start_none set c.args.task c.args.machine.now c.args.live s views c.end-else-len-lt-MOST_TASKS.new.machine c.end-else-len-lt-MOST_TASKS.result c.in-Starts.root c.in-Starts.shape n
+    (subst (λ (x : Came). IsNextOf c.args.task c.args.machine.now.world c.args.live x n) c.in-Starts.is next) (omega arith) c.end-else-len-lt-MOST_TASKS.ensures

@@ -1,13 +1,13 @@
 use Rattle.std.proofs.Common.{arith, refl, subst, sym}
 use Rattle.kilim_run_machine.specs.Natives.{native_of}
 use Rattle.kilim_run_model.specs.Lone.{asks_next, finish_next, opens_next}
-use Rattle.kilim_replay_thread.specs.Comes.{Comes, HasRunOn, IsNear, IsOnOrEnd}
+use Rattle.kilim_replay_thread.specs.Comes.{Comes, HasRunOn, IsNear, IsOnOrEnd, IsOther, SuitsCall}
 use Rattle.kilim_replay_thread.specs.Live.{HasFrames, answered_in, behind_at, calls_in, kept_for, lone_at, operands_in}
 use Rattle.kilim_replay_thread.specs.Raises.{raised_at, thrown_at}
 use Rattle.kilim_replay_thread.specs.Reach.{Reaches, setting_of}
 use Rattle.kilim_replay_thread.specs.declared.runs.Halted.{Halted}
 use Rattle.kilim_replay_thread.proofs.Arms.{asked_arm, ended_arm, opened_arm, raised_arm, returned_arm, spent_arm, thrown_arm}
-use Rattle.kilim_replay_thread.proofs.Reaching.{both_ok, came_by, done_now, led_by, none_there, over_ok, safe_on, spent_now}
+use Rattle.kilim_replay_thread.proofs.Reaching.{both_ok, came_by, done_now, led_by, none_there, safe_on, spent_now, suits_call, suits_other}
 use Rattle.kilim_replay_thread.proofs.advance.advance.Goals as goal
 
 pub returns-then-live-limits-clause-reaches : goal.returns-then-live-limits-clause-reaches
@@ -34,11 +34,11 @@ returns-in-NewBox-clause-reaches c =
     let set = setting_of c.args.program.now c.args.main c.args.limits.now in
     let w' = c.run_on.new.world in
     let mid = c.run_on.new.live in
+    let opened =
+    opened_arm set c.args.task c.args.world.now c.args.live.now w' mid c.requires.can c.if-live-limits.false
+    (subst (λ (h : Halted). HasRunOn c.args.program.now c.args.limits.now.steps c.args.world.now c.args.live.now w' mid h) c.in-NewBox.is c.in-Ok.ensures.run) in
     came_by set c.args.task (lone_at c.args.task c.args.world.now c.args.live.now) c.args.live.now.done w' mid (omega (arith, c.in-Ok.ensures.run.counted)) (opens_next c.args.task (lone_at c.args.task w' mid) (answered_in mid.frames) mid.done mid.boxes)
-    w' c.open.new.live c.open.result
-    (opened_arm set c.args.task c.args.world.now c.args.live.now w' mid c.requires.can c.if-live-limits.false
-    (subst (λ (h : Halted). HasRunOn c.args.program.now c.args.limits.now.steps c.args.world.now c.args.live.now w' mid h) c.in-NewBox.is c.in-Ok.ensures.run)).0
-    c.open.ensures.counted c.open.ensures.comes
+    w' c.open.new.live c.open.result opened.0 (suits_other set c.args.task w' mid c.open.result c.open.ensures.other opened.2) c.open.ensures.counted c.open.ensures.comes
 
 pub ask-requires-clause-operands : goal.ask-requires-clause-operands
 ask-requires-clause-operands c =
@@ -59,9 +59,14 @@ returns-in-Asks-clause-reaches c =
     let at =
     asked_arm set c.args.task c.args.world.now c.args.live.now w' mid c.requires.can c.if-live-limits.false c.in-Asks.method
     (subst (λ (h : Halted). HasRunOn c.args.program.now c.args.limits.now.steps c.args.world.now c.args.live.now w' mid h) c.in-Asks.is c.in-Ok.ensures.run) in
-    over_ok (λ came. Comes c.args.task next w' mid c.ask.new.world c.ask.new.live came) (λ came. Reaches set c.args.task (lone_at c.args.task c.args.world.now c.args.live.now) c.args.live.now.done c.ask.new.world c.ask.new.live came)
-    (IsNear mid.done c.ask.new.live.done) c.ask.result (c.ask.ensures.comes set refl refl) c.ask.ensures.counted
-    (λ came comes near. came_by set c.args.task (lone_at c.args.task c.args.world.now c.args.live.now) c.args.live.now.done w' mid (omega (arith, c.in-Ok.ensures.run.counted)) next c.ask.new.world c.ask.new.live came at.stood near comes)
+    let native = native_of c.args.program.now c.in-Asks.method in
+    let args = operands_in mid.frames in
+    both_ok (λ came. Comes c.args.task next w' mid c.ask.new.world c.ask.new.live came) (SuitsCall native args)
+    (λ came. Reaches set c.args.task (lone_at c.args.task c.args.world.now c.args.live.now) c.args.live.now.done c.ask.new.world c.ask.new.live came) (IsNear mid.done c.ask.new.live.done) c.ask.result (c.ask.ensures.comes set refl refl)
+    c.ask.ensures.suits c.ask.ensures.counted
+    (λ came comes suits near.
+    came_by set c.args.task (lone_at c.args.task c.args.world.now c.args.live.now) c.args.live.now.done w' mid (omega (arith, c.in-Ok.ensures.run.counted)) next c.ask.new.world c.ask.new.live came at.stood
+    (suits_call set c.args.task w' mid native args came suits at.other at.puts) near comes)
 
 pub returns-in-Returned-clause-reaches : goal.returns-in-Returned-clause-reaches
 returns-in-Returned-clause-reaches c =
@@ -69,12 +74,14 @@ returns-in-Returned-clause-reaches c =
     let w' = c.run_on.new.world in
     let mid = c.run_on.new.live in
     let next = finish_next set (lone_at c.args.task w' mid) mid.done mid.boxes (kept_for c.args.task w'.kept) in
-    over_ok (λ came. Comes c.args.task next w' mid c.leave.new.world c.leave.new.live came) (λ came. Reaches set c.args.task (lone_at c.args.task c.args.world.now c.args.live.now) c.args.live.now.done c.leave.new.world c.leave.new.live came)
-    (IsNear mid.done c.leave.new.live.done) c.leave.result (c.leave.ensures.comes set refl refl) c.leave.ensures.counted
-    (λ came comes near.
-    came_by set c.args.task (lone_at c.args.task c.args.world.now c.args.live.now) c.args.live.now.done w' mid (omega (arith, c.in-Ok.ensures.run.counted)) next c.leave.new.world c.leave.new.live came
-    (returned_arm set c.args.task c.args.world.now c.args.live.now w' mid c.requires.can c.if-live-limits.false
-    (subst (λ (h : Halted). HasRunOn c.args.program.now c.args.limits.now.steps c.args.world.now c.args.live.now w' mid h) c.in-Returned.is c.in-Ok.ensures.run)) near comes)
+    let returned =
+    returned_arm set c.args.task c.args.world.now c.args.live.now w' mid c.requires.can c.if-live-limits.false
+    (subst (λ (h : Halted). HasRunOn c.args.program.now c.args.limits.now.steps c.args.world.now c.args.live.now w' mid h) c.in-Returned.is c.in-Ok.ensures.run) in
+    both_ok (λ came. Comes c.args.task next w' mid c.leave.new.world c.leave.new.live came) IsOther (λ came. Reaches set c.args.task (lone_at c.args.task c.args.world.now c.args.live.now) c.args.live.now.done c.leave.new.world c.leave.new.live came)
+    (IsNear mid.done c.leave.new.live.done) c.leave.result (c.leave.ensures.comes set refl refl) c.leave.ensures.other c.leave.ensures.counted
+    (λ came comes other near.
+    came_by set c.args.task (lone_at c.args.task c.args.world.now c.args.live.now) c.args.live.now.done w' mid (omega (arith, c.in-Ok.ensures.run.counted)) next c.leave.new.world c.leave.new.live came returned.0
+    (suits_other set c.args.task w' mid came other returned.1) near comes)
 
 pub returns-in-Ended-clause-reaches : goal.returns-in-Ended-clause-reaches
 returns-in-Ended-clause-reaches c =

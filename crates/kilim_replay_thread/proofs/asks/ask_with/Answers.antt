@@ -1,7 +1,7 @@
-use Rattle.std.proofs.Common.{[], ◌∷◌}
+use Rattle.std.proofs.Common.{[], ◌∷◌, Some, refl}
 use Rattle.kilim_fiber_steps.specs.records.natives.Natives.{meaning}
 use Rattle.kilim_replay_thread.specs.Live.{behind_at, operands_in}
-use Rattle.kilim_replay_thread.proofs.Asking.{args_same, come_by, told_none, told_one, told_two, with_args}
+use Rattle.kilim_replay_thread.proofs.Asking.{args_same, come_by, suits_as, told_none, told_one, told_two, with_args}
 use Rattle.kilim_replay_thread.proofs.asks.ask_with.Goals as goal
 
 pub ask_of_none-requires-clause-can : goal.ask_of_none-requires-clause-can
@@ -33,3 +33,15 @@ returns-in-Two-clause-comes c = λ set is-program is-limits.
     come_by c.args.task c.args.world.now c.args.live.now c.ask_of_two.new.world c.ask_of_two.new.live c.ask_of_two.result _ _
     (args_same set (behind_at c.args.task c.args.world.now c.args.live.now) (meaning c.args.native) (operands_in c.args.live.now.frames) (c.in-Two.first ∷ c.in-Two.second ∷ []) (told_two (operands_in c.args.live.now.frames) c.args.operands.now c.in-Two.first c.in-Two.second c.in-Two.is c.requires.operands))
     (c.ask_of_two.ensures.comes set is-program)
+
+pub returns-in-None-clause-suits : goal.returns-in-None-clause-suits
+returns-in-None-clause-suits c =
+    suits_as c.ask_of_none.result (Some (meaning c.args.native)) (Some (meaning c.args.native)) (operands_in c.args.live.now.frames) [] refl (told_none (operands_in c.args.live.now.frames) c.args.operands.now c.in-None.is c.requires.operands) c.ask_of_none.ensures.suits
+
+pub returns-in-One-clause-suits : goal.returns-in-One-clause-suits
+returns-in-One-clause-suits c =
+    suits_as c.ask_of_one.result (Some (meaning c.args.native)) (Some (meaning c.args.native)) (operands_in c.args.live.now.frames) (c.in-One.value ∷ []) refl (told_one (operands_in c.args.live.now.frames) c.args.operands.now c.in-One.value c.in-One.is c.requires.operands) c.ask_of_one.ensures.suits
+
+pub returns-in-Two-clause-suits : goal.returns-in-Two-clause-suits
+returns-in-Two-clause-suits c =
+    suits_as c.ask_of_two.result (Some (meaning c.args.native)) (Some (meaning c.args.native)) (operands_in c.args.live.now.frames) (c.in-Two.first ∷ c.in-Two.second ∷ []) refl (told_two (operands_in c.args.live.now.frames) c.args.operands.now c.in-Two.first c.in-Two.second c.in-Two.is c.requires.operands) c.ask_of_two.ensures.suits

@@ -10,6 +10,7 @@ new-requires g c = record {
   task = c.in-Ok.ensures.task;
   course = c.in-Ok.ensures.course;
   stands = λ set is. c.in-Ok.ensures.stands set (c.requires.run set is).run;
+  none = c.requires.none;
 }
 
 pub run_rounds-requires-clause-may : goal.run_rounds-requires-clause-may

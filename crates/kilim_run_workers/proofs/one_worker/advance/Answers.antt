@@ -1,7 +1,9 @@
-use Rattle.std.proofs.Common.{ap, ◌∙◌, subst}
+use Rattle.kilim_run_board.specs.declared.fibers.Wants.TheVariants as wants
+use Rattle.std.proofs.Common.{ap, ◌∙◌, subst, refl}
+use Rattle.kilim_run_workers.proofs.Given.{acted_alone, acted_end, acted_on, acted_over}
 use Rattle.std.specs.Prelude.{slice_get}
 use Rattle.kilim_run_board.specs.Seen.{IsNumbered}
-use Rattle.kilim_run_workers.proofs.one_worker.Steps.{going, actable, resumed, lent_now, may_now, done_now, asked_by, can_answer, goes_on, is_over, is_ended, counted, going_none, falls_on, falls_over, falls_rest, rests_now}
+use Rattle.kilim_run_workers.proofs.one_worker.Steps.{going, actable, resumed, lent_now, may_now, done_now, asked_by, can_answer, goes_on, is_over, is_ended, counted, going_none, falls_on, falls_over, falls_rest, rests_now, rests_waiting}
 use Rattle.kilim_run_workers.proofs.one_worker.Measures.{over_left, act_calm, same_calm}
 use Rattle.std.proofs.Common.{◌≤◌}
 use Rattle.kilim_run_state.specs.declared.run.Limits.{Limits}
@@ -110,13 +112,54 @@ pub act-requires-clause-room : goal.act-requires-clause-room
 act-requires-clause-room g c = c.in-Ok-reserve.ensures.room
 
 pub returns-in_default : goal.returns-in_default
-returns-in_default g c = record { next = tt; falls = tt }
+returns-in_default g c = record { next = tt; falls = tt; task = tt; made = tt; waiting = tt; alone = tt }
 
 pub returns-in_default-reserve : goal.returns-in_default-reserve
-returns-in_default-reserve g c = record { next = tt; falls = tt }
+returns-in_default-reserve g c = record { next = tt; falls = tt; task = tt; made = tt; waiting = tt; alone = tt }
 
 pub returns-in_default-reserve-2 : goal.returns-in_default-reserve-2
-returns-in_default-reserve-2 g c = record { next = tt; falls = tt }
+returns-in_default-reserve-2 g c = record { next = tt; falls = tt; task = tt; made = tt; waiting = tt; alone = tt }
 
 pub returns-in-Err : goal.returns-in-Err
-returns-in-Err g c = record { next = tt; falls = tt }
+returns-in-Err g c = record { next = tt; falls = tt; task = tt; made = tt; waiting = tt; alone = tt }
+
+pub returns-in-Rest-clause-made : goal.returns-in-Rest-clause-made
+returns-in-Rest-clause-made g c = refl
+
+pub returns-in-Rest-clause-waiting : goal.returns-in-Rest-clause-waiting
+returns-in-Rest-clause-waiting g c =
+    rests_waiting g.F.Fibers.refused c.args.board.now c.args.fiber.now (g.F.Fibers.rests c.resume.new.self) (g.F.Fibers.count_of c.args.fiber.now) (g.F.Fibers.count_of c.resume.new.self) c.in-Rest.waits c.requires.waits
+    (subst (RestsRightly (g.F.Fibers.rests c.resume.new.self) (g.F.Fibers.refused c.args.fiber.now) (g.F.Fibers.count_of c.args.fiber.now) (g.F.Fibers.count_of c.resume.new.self)) c.in-Rest.is c.in-Ok.ensures.rest)
+
+pub returns-in-Ok-reserve-clause-made : goal.returns-in-Ok-reserve-clause-made
+returns-in-Ok-reserve-clause-made g c = acted_end (IsNumbered g.F.Fibers.task_of g.F.Fibers.course_of g.F.Fibers.count_of g.F.Fibers.refused g.F.Fibers.holds) (seen c.args.board.now) (seen c.reserve.new.self) (seen c.act.new.self) 0 (g.F.Fibers.task_of c.args.fiber.now) c.in-Ok-reserve.ensures.same c.in-End.cause c.act.result (c.act.ensures.effect (g.F.Fibers.task_of c.args.fiber.now) (ap (λ cs. slice_get cs 0) (c.in-Ok-reserve.ensures.same.spots.cells ∙ c.requires.lending.cells)))
+
+pub returns-in-Ok-reserve-clause-alone : goal.returns-in-Ok-reserve-clause-alone
+returns-in-Ok-reserve-clause-alone g c = acted_alone (IsNumbered g.F.Fibers.task_of g.F.Fibers.course_of g.F.Fibers.count_of g.F.Fibers.refused g.F.Fibers.holds) (seen c.args.board.now) (seen c.reserve.new.self) (seen c.act.new.self) 0 (g.F.Fibers.task_of c.args.fiber.now) c.in-Ok-reserve.ensures.same (wants.End c.in-End.cause) c.act.result (c.act.ensures.effect (g.F.Fibers.task_of c.args.fiber.now) (ap (λ cs. slice_get cs 0) (c.in-Ok-reserve.ensures.same.spots.cells ∙ c.requires.lending.cells)))
+
+pub returns-in-Ok-answer-clause-made : goal.returns-in-Ok-answer-clause-made
+returns-in-Ok-answer-clause-made g c =
+    let now = (resumed g.F.Fibers.task_of g.F.Fibers.course_of g.F.Fibers.holds g.F.Fibers.asked g.F.Fibers.serves c.args.code.now c.args.main c.args.limits.now c.args.board.now c.reserve-in_default-wants.new.self c.args.fiber.now c.resume.new.self c.in-Ok.wants c.requires.lending c.in-Ok-reserve-2.ensures.same c.in-Ok-reserve-2.ensures.roomy c.in-Ok-reserve-2.ensures.stands c.in-Ok.ensures.task c.in-Ok.ensures.course c.in-Ok.ensures.wants) in
+    let goes = (going c.in-Ok.wants c.in_default-wants.not-Rest c.in_default-wants.not-End) in
+    let set = c.requires.some.0 in
+    let s = now.stands set c.requires.some.1 in
+    let d = done_now g.F.Fibers.task_of g.F.Fibers.course_of g.F.Fibers.holds g.F.Fibers.asked g.F.Fibers.serves c.args.code.now c.args.main c.args.limits.now c.reserve-in_default-wants.new.self c.resume.new.self c.in-Ok.wants now c.act-in_default-wants.new.self (acted.Answer c.in-Answer.answer) goes c.in-Answer.ensures.stands set c.requires.some.1 in
+    acted_on (IsNumbered g.F.Fibers.task_of g.F.Fibers.course_of g.F.Fibers.count_of g.F.Fibers.refused g.F.Fibers.holds) (seen c.args.board.now) (seen c.reserve-in_default-wants.new.self) (seen c.act-in_default-wants.new.self) 0 (g.F.Fibers.task_of c.args.fiber.now) (g.F.Fibers.task_of c.resume.new.self) (g.F.Fibers.count_of c.resume.new.self) (g.F.Fibers.count_of c.answer.new.self) (g.F.Fibers.refused c.answer.new.self) c.in-Ok.wants c.in-Answer.answer c.in-Ok.ensures.task c.in-Ok-reserve-2.ensures.same
+    (c.in-Answer.ensures.effect (g.F.Fibers.task_of c.resume.new.self) (lent_now g.F.Fibers.task_of g.F.Fibers.course_of g.F.Fibers.holds g.F.Fibers.asked g.F.Fibers.serves c.args.code.now c.args.main c.args.limits.now c.reserve-in_default-wants.new.self c.resume.new.self c.in-Ok.wants now))
+    (counted g.F.Fibers.task_of g.F.Fibers.course_of g.F.Fibers.holds g.F.Fibers.asked c.requires.some.0 (seen c.act-in_default-wants.new.self) c.resume.new.self c.in-Ok.wants c.in-Answer.answer (g.F.Fibers.count_of c.resume.new.self) (g.F.Fibers.count_of c.answer.new.self) (g.F.Fibers.refused c.answer.new.self) goes s.2 d.1
+    (λ wish deed asks fits. (c.in-Ok-answer.ensures.goes set wish deed c.requires.some.1.run.served asks fits).2))
+
+pub returns-in-Ok-answer-clause-alone : goal.returns-in-Ok-answer-clause-alone
+returns-in-Ok-answer-clause-alone g c = acted_alone (IsNumbered g.F.Fibers.task_of g.F.Fibers.course_of g.F.Fibers.count_of g.F.Fibers.refused g.F.Fibers.holds) (seen c.args.board.now) (seen c.reserve-in_default-wants.new.self) (seen c.act-in_default-wants.new.self) 0 (g.F.Fibers.task_of c.args.fiber.now) c.in-Ok-reserve-2.ensures.same c.in-Ok.wants (acted.Answer c.in-Answer.answer) (c.in-Answer.ensures.effect (g.F.Fibers.task_of c.args.fiber.now) (ap (λ cs. slice_get cs 0) (c.in-Ok-reserve-2.ensures.same.spots.cells ∙ c.requires.lending.cells)))
+
+pub returns-in-OutOfTasks-clause-made : goal.returns-in-OutOfTasks-clause-made
+returns-in-OutOfTasks-clause-made g c = acted_over (IsNumbered g.F.Fibers.task_of g.F.Fibers.course_of g.F.Fibers.count_of g.F.Fibers.refused g.F.Fibers.holds) (seen c.args.board.now) (seen c.reserve-in_default-wants.new.self) (seen c.act-in_default-wants.new.self) 0 (g.F.Fibers.task_of c.args.fiber.now) c.in-Ok-reserve-2.ensures.same c.in-Ok.wants acted.OutOfTasks tt (c.in-OutOfTasks.ensures.effect (g.F.Fibers.task_of c.args.fiber.now) (ap (λ cs. slice_get cs 0) (c.in-Ok-reserve-2.ensures.same.spots.cells ∙ c.requires.lending.cells)))
+
+pub returns-in-OutOfTasks-clause-alone : goal.returns-in-OutOfTasks-clause-alone
+returns-in-OutOfTasks-clause-alone g c = acted_alone (IsNumbered g.F.Fibers.task_of g.F.Fibers.course_of g.F.Fibers.count_of g.F.Fibers.refused g.F.Fibers.holds) (seen c.args.board.now) (seen c.reserve-in_default-wants.new.self) (seen c.act-in_default-wants.new.self) 0 (g.F.Fibers.task_of c.args.fiber.now) c.in-Ok-reserve-2.ensures.same c.in-Ok.wants acted.OutOfTasks (c.in-OutOfTasks.ensures.effect (g.F.Fibers.task_of c.args.fiber.now) (ap (λ cs. slice_get cs 0) (c.in-Ok-reserve-2.ensures.same.spots.cells ∙ c.requires.lending.cells)))
+
+pub returns-in-OutOfRoom-clause-made : goal.returns-in-OutOfRoom-clause-made
+returns-in-OutOfRoom-clause-made g c = acted_over (IsNumbered g.F.Fibers.task_of g.F.Fibers.course_of g.F.Fibers.count_of g.F.Fibers.refused g.F.Fibers.holds) (seen c.args.board.now) (seen c.reserve-in_default-wants.new.self) (seen c.act-in_default-wants.new.self) 0 (g.F.Fibers.task_of c.args.fiber.now) c.in-Ok-reserve-2.ensures.same c.in-Ok.wants acted.OutOfRoom tt (c.in-OutOfRoom.ensures.effect (g.F.Fibers.task_of c.args.fiber.now) (ap (λ cs. slice_get cs 0) (c.in-Ok-reserve-2.ensures.same.spots.cells ∙ c.requires.lending.cells)))
+
+pub returns-in-OutOfRoom-clause-alone : goal.returns-in-OutOfRoom-clause-alone
+returns-in-OutOfRoom-clause-alone g c = acted_alone (IsNumbered g.F.Fibers.task_of g.F.Fibers.course_of g.F.Fibers.count_of g.F.Fibers.refused g.F.Fibers.holds) (seen c.args.board.now) (seen c.reserve-in_default-wants.new.self) (seen c.act-in_default-wants.new.self) 0 (g.F.Fibers.task_of c.args.fiber.now) c.in-Ok-reserve-2.ensures.same c.in-Ok.wants acted.OutOfRoom (c.in-OutOfRoom.ensures.effect (g.F.Fibers.task_of c.args.fiber.now) (ap (λ cs. slice_get cs 0) (c.in-Ok-reserve-2.ensures.same.spots.cells ∙ c.requires.lending.cells)))

@@ -1,5 +1,6 @@
 -- Where a fiber goes on by itself its count falls never, and grows where it comes to pause.
 use Rattle.std.proofs.Common.{◌≡◌, ◌<◌, ◌≤◌, ℕ, ℤ, pos, Bool, true, false, cond, not, List, [], ◌∷◌, Option, Some, None, refl, sym, ◌∙◌, ◌+◌, arith, suc}
+use Rattle.kilim_fiber_spec.specs.Acts.{Apart}
 use Rattle.std.specs.Prelude.{nat_le, nat_lt, ◌&&◌}
 use Rattle.std.proofs.lemmas.Bool.{false≢true}
 use Rattle.kilim_program.specs.declared.instr.Instr.{Instr}
@@ -19,7 +20,7 @@ use Rattle.kilim_run_machine.specs.Natives as native
 use Rattle.kilim_run_state.specs.Shapes.{shape_of}
 use Rattle.kilim_run_model.specs.Lone.{arg_at, box_limit, printed}
 use Rattle.kilim_run_model.specs.State.{Setting}
-use Rattle.kilim_fiber_laws.specs.woven_kin.Nexts.{Next, Goes, Rests, Ends, Stands, arg_next, asks_next, begins_next, begun_with, found_next, finish_next, get_next, message_next, native_next, next_by, next_in, next_of, opens_next, print_next, put_next, resumes_next, spent_or, start_next, stood, ticked, yield_next, put_wait_next, wait_next, bound_next}
+use Rattle.kilim_fiber_laws.specs.woven_kin.Nexts.{Next, Goes, Rests, Ends, Stands, arg_next, asks_next, begins_next, begun_with, found_next, finish_next, get_next, message_next, native_next, next_by, next_in, next_of, opens_next, print_next, put_next, resumes_next, spent_or, start_next, stood, ticked, yield_next, put_wait_next, wait_next, bound_next, PutsAgain, first_wait, putw_next, taken_at, wait_again, waiting_at}
 use Rattle.kilim_fiber_laws.specs.woven_kin.Standing.{Standing}
 use Rattle.kilim_fiber_spec.specs.Fibers.{Fib, Fiber_at, Saved, executes_on, first_receiver, is_pausing, is_rewinding, member_does, resumed, rewound, wfetch}
 use Rattle.kilim_theorems.specs.weaving.unwinds.Law.{CountsOn, PausingCounts}
@@ -75,13 +76,25 @@ module _ (set : Setting) (W : Program) (t : ℕ) (x : Standing) where
     message_ok box (Ref n) = put_ok box n (shape_of set.program h n)
     message_ok box _ = tt
 
-    put_wait_ok : (box : BoxName) (n : ℕ) (o : Option (List Token)) → Ok (put_wait_next z box n o)
+    put_wait_ok : (box : BoxName) (n : ℕ) (o : Option (List Token)) → Ok (put_wait_next set.program z box n o)
     put_wait_ok box n None = tt
     put_wait_ok box n (Some shape) = tt
 
     wait_ok : (box : BoxName) (v : Value) → Ok (wait_next set.program z box v)
     wait_ok box (Ref n) = put_wait_ok box n (shape_of set.program h n)
     wait_ok box _ = tt
+
+    first_ok : (v u : Value) → Ok (first_wait set.program z v u)
+    first_ok (Box box) u = wait_ok box u
+    first_ok _ u = tt
+
+    again_ok : (v : Value) (kept : List Apart) → Ok (wait_again set z v kept)
+    again_ok (Box box) (k ∷ ks) = spent_ok true x.done (PutsAgain box k.root k.shape (taken_at (record z { heap = k.heap; aside = ks })) (waiting_at box z) (taken_at (record z { aside = ks }))) tt
+    again_ok _ _ = tt
+
+    putw_ok : (again : Bool) (v u : Value) → Ok (putw_next set again z v u)
+    putw_ok true v u = again_ok v x.aside
+    putw_ok false v u = spent_ok true x.done (first_wait set.program z v u) (first_ok v u)
 
     bound_ok : (box : BoxName) (i : ℤ) → Ok (bound_next z box i)
     bound_ok box (pos (suc n)) = tt
@@ -128,7 +141,7 @@ module _ (set : Setting) (W : Program) (t : ℕ) (x : Standing) where
     native_ok native.ArgCount [] = goes _ _ refl one_more
     native_ok native.Start (Ref n ∷ []) = start_ok n (shape_of set.program h n)
     native_ok native.Put (Box box ∷ v ∷ []) = message_ok box v
-    native_ok native.PutWait (Box box ∷ v ∷ []) = wait_ok box v
+    native_ok native.PutWait (v ∷ u ∷ Fiber ∷ []) = putw_ok (is_rewinding x.fiber) v u
     native_ok native.Bound (Box box ∷ Int i ∷ []) = bound_ok box i
     native_ok native.Get (v ∷ Fiber ∷ []) = spent_ok true x.done (get_next z v) (get_ok v)
     native_ok native.Print (v ∷ []) = print_ok (printed v)

@@ -28,9 +28,9 @@ use Rattle.kilim_fiber_laws.specs.Served.{CanServe}
 use Rattle.kilim_fiber_laws.specs.woven_kin.history.History.{Does, Outcome, state_in, state_of, world_of}
 use Rattle.kilim_fiber_laws.proofs.woven_kin.Records.{pausing_same}
 use Rattle.kilim_fiber_laws.specs.woven_kin.Alike.{HasFree, Like, NextLike}
-use Rattle.kilim_fiber_laws.specs.woven_kin.Nexts.{Next, Goes, Puts, Gets, Probes, Starts, Prints, Rests, Ends, Stands, arg_next, asks_next, begins_next, begun_with, found_next, finish_next, get_next, message_next, native_next, next_by, next_in, next_of, opens_next, print_next, put_next, spent_or, start_next, stood, ticked, yield_next, put_wait_next, wait_next, bound_next, PutWaits, Bounds}
+use Rattle.kilim_fiber_laws.specs.woven_kin.Nexts.{Next, Goes, Puts, Gets, Probes, Starts, Prints, Rests, Ends, Stands, arg_next, asks_next, begins_next, begun_with, found_next, finish_next, get_next, message_next, native_next, next_by, next_in, next_of, opens_next, print_next, put_next, spent_or, start_next, stood, ticked, yield_next, put_wait_next, wait_next, bound_next, PutWaits, Bounds, PutsAgain, first_wait, putw_next, taken_at, wait_again, waiting_at}
 use Rattle.kilim_fiber_laws.specs.woven_kin.Standing.{Standing}
-use Rattle.kilim_fiber_spec.specs.Acts.{Over, World}
+use Rattle.kilim_fiber_spec.specs.Acts.{Over, World, Apart}
 use Rattle.kilim_fiber_spec.specs.Fibers.{Fib, Fiber_at, Resting, Saved, WStop, is_pausing, is_rewinding, member_does, pausing, rewound, wfetch, wstep, wsteps}
 use Rattle.kilim_fiber_spec.specs.Runs.{ComesToRest, most_uncounted}
 use Rattle.kilim_fiber_laws.proofs.receivers.states.Along.{append_none}
@@ -63,13 +63,25 @@ module _ (set : Setting) (W : Program) (t : ℕ) where
     message_still box (Ref n) = put_still box n (shape_of set.program z.heap n)
     message_still box _ = tt
 
-    put_wait_still : (box : BoxName) (n : ℕ) (o : Option (List Token)) → StillPauses (put_wait_next z box n o)
+    put_wait_still : (box : BoxName) (n : ℕ) (o : Option (List Token)) → StillPauses (put_wait_next set.program z box n o)
     put_wait_still box n None = tt
     put_wait_still box n (Some shape) = tt
 
     wait_still : (box : BoxName) (v : Value) → StillPauses (wait_next set.program z box v)
     wait_still box (Ref n) = put_wait_still box n (shape_of set.program z.heap n)
     wait_still box _ = tt
+
+    first_still : (v u : Value) → StillPauses (first_wait set.program z v u)
+    first_still (Box box) u = wait_still box u
+    first_still _ u = tt
+
+    again_still : (v : Value) (kept : List Apart) → StillPauses (wait_again set z v kept)
+    again_still (Box box) (k ∷ ks) = spent_still true z.done (PutsAgain box k.root k.shape (taken_at (record z { heap = k.heap; aside = ks })) (waiting_at box z) (taken_at (record z { aside = ks }))) tt
+    again_still _ _ = tt
+
+    putw_still : (again : Bool) (v u : Value) → StillPauses (putw_next set again z v u)
+    putw_still true v u = again_still v z.aside
+    putw_still false v u = spent_still true z.done (first_wait set.program z v u) (first_still v u)
 
     bound_still : (box : BoxName) (i : ℤ) → StillPauses (bound_next z box i)
     bound_still box (pos (suc n)) = tt
@@ -121,7 +133,7 @@ module _ (set : Setting) (W : Program) (t : ℕ) where
     native_still native.ArgCount [] = e
     native_still native.Start (Ref n ∷ []) = start_still n (shape_of set.program z.heap n)
     native_still native.Put (Box box ∷ v ∷ []) = message_still box v
-    native_still native.PutWait (Box box ∷ v ∷ []) = wait_still box v
+    native_still native.PutWait (v ∷ u ∷ Fiber ∷ []) = putw_still (is_rewinding z.fiber) v u
     native_still native.Bound (Box box ∷ Int i ∷ []) = bound_still box i
     native_still native.Get (v ∷ Fiber ∷ []) = spent_still true z.done (get_next z v) (get_still v)
     native_still native.Print (v ∷ []) = print_still (printed v)
@@ -191,7 +203,8 @@ module _ (set : Setting) (W : Program) (marks : List (List Bool)) where
     nothing_by (Goes y) d = tt
     nothing_by (Rests y) d = tt
     nothing_by (Puts box root shape y) d = let s = d.0 acts [] in stops _ s.1
-    nothing_by (PutWaits box root shape y) d = let s = d.0 acts [] in stops _ s.1
+    nothing_by (PutWaits box root shape paused y) d = let s = d.0 acts [] in stops _ s.1
+    nothing_by (PutsAgain box root shape full paused y) d = let s = d.0 acts [] in stops _ s.1
     nothing_by (Bounds box most y) d = let s = d.0 acts [] in stops _ s.1
     nothing_by (Gets box paused y) d = let s = d.0 acts [] in stops _ s.1
     nothing_by (Probes box y) d = let s = d.0 acts [] in stops _ s.1

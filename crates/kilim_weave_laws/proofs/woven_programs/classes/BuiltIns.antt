@@ -83,7 +83,7 @@ module _ (P : Program) where
       ap (λ (z : Method). z ∷ ws) (becomes_by m w c m.pausable (has_calls P m) (none_in m.code p.0) a.0)
       ∙ ap (λ (zs : List Method). becomes (fiber_ty P) m ∷ zs) (last_are ms ws cs a.1 p.1)
 
-  become : (n : ℕ) → map (becomes (class_type (n + 7))) (built_in_methods_in Plain n) ++ fiber_methods Woven n ≡ built_in_methods_in Woven n
+  become : (n : ℕ) → map (becomes (class_type (n + 18))) (built_in_methods_in Plain n) ++ fiber_methods Woven n ≡ built_in_methods_in Woven n
   become n = refl
 
   no_codes : (n : ℕ) → list_all (λ m. is_empty m.code) (built_in_methods_in Plain n) ≡ true
@@ -129,17 +129,17 @@ module _ (P W : Program) (counted : List (List Bool)) (keeps : Keeps P) (plainly
   abbrev made : ℕ
   made = length keeps.built_in.own_methods
 
-  many : length P.classes ≡ own + 7
+  many : length P.classes ≡ own + 18
   many = how_many P W counted keeps plainly form
 
-  many_methods : length P.methods ≡ made + 18
+  many_methods : length P.methods ≡ made + 29
   many_methods = ap length keeps.built_in.methods ∙ (length-append keeps.built_in.own_methods (built_in_methods_in P.form own) ∙ ap (λ (f : Form). made + length (built_in_methods_in f own)) plainly)
 
   pub first_methods : first_method P ≡ made
-  first_methods = let e : first_method P ≡ length P.methods - 18 = refl in let n = many_methods in omega (arith, e, n)
+  first_methods = let e : first_method P ≡ length P.methods - 29 = refl in let n = many_methods in omega (arith, e, n)
 
   first_classes : first_class P ≡ own
-  first_classes = let e : first_class P ≡ length P.classes - 7 = refl in let n = many in omega (arith, e, n)
+  first_classes = let e : first_class P ≡ length P.classes - 18 = refl in let n = many in omega (arith, e, n)
 
   parts : Split P keeps.built_in.own_methods (built_in_methods_in P.form own) W.methods
   parts = split P keeps.built_in.own_methods (built_in_methods_in P.form own) W.methods counted (subst (λ (ms : List Method). AllWoven P ms W.methods counted) keeps.built_in.methods form.methods)
@@ -149,7 +149,7 @@ module _ (P W : Program) (counted : List (List Bool)) (keeps : Keeps P) (plainly
       let last = subst (λ (f : Form). AllWoven P (built_in_methods_in f own) parts.back parts.marks) plainly parts.last in
       last_are P (built_in_methods_in Plain own) parts.back parts.marks last (no_codes P own)
       ∙ (ap (λ (n : ℕ). map (becomes P (class_type n)) (built_in_methods_in Plain own) ++ fiber_methods Woven (first_class P)) many
-      ∙ (ap (λ (n : ℕ). map (becomes P (class_type (own + 7))) (built_in_methods_in Plain own) ++ fiber_methods Woven n) first_classes
+      ∙ (ap (λ (n : ℕ). map (becomes P (class_type (own + 18))) (built_in_methods_in Plain own) ++ fiber_methods Woven n) first_classes
       ∙ become P own))
 
   methods_end : W.methods ≡ parts.front ++ built_in_methods_in Woven own

@@ -49,7 +49,7 @@ numbers_from : (n : ℕ) (ks : List ℕ) → map (λ (m : MethodId). m.0) (metho
 numbers_from n [] = refl
 numbers_from n (k ∷ ks) = ap (λ zs. (n + k) ∷ zs) (numbers_from n ks)
 
-pub fiber_owned : (n : ℕ) → AllOwned (λ (m : Method). m.owner) (class_id (n + 7)) (fiber_methods Woven n)
+pub fiber_owned : (n : ℕ) → AllOwned (λ (m : Method). m.owner) (class_id (n + 18)) (fiber_methods Woven n)
 fiber_owned n = (refl, (refl, (refl, (refl, (refl, (refl, (refl, (refl, (refl, (refl, (refl, tt)))))))))))
 
 fiber_names : (n : ℕ) → all_differ (λ (a b : Method). bytes_eq a.name b.name) (fiber_methods Woven n) ≡ true
@@ -122,13 +122,13 @@ module _ (P W : Program) (counted : List (List Bool)) (keeps : Keeps P) (plainly
   methods_are : W.methods ≡ parts.front ++ fiber_methods Woven (first_class P)
   methods_are = parts.is ∙ ap (λ (ms : List Method). parts.front ++ ms) parts.last.0
 
-  fiber_number : first_class P + 7 ≡ length P.classes
+  fiber_number : first_class P + 18 ≡ length P.classes
   fiber_number = let e = first_is P W counted keeps plainly form in let n = how_many P W counted keeps plainly form in omega (arith, e, n)
 
-  many : length P.methods ≡ first_method P + 18
+  many : length P.methods ≡ first_method P + 29
   many =
       let e = first_methods P W counted keeps plainly form in
-      let f : first_method P ≡ length P.methods - 18 = refl in
+      let f : first_method P ≡ length P.methods - 29 = refl in
       let h = ap length keeps.built_in.methods ∙ (length-append keeps.built_in.own_methods _ ∙ ap (λ f. length keeps.built_in.own_methods + length (Rattle.kilim_program.specs.BuiltIn.built_in_methods_in f (length keeps.built_in.own_classes))) plainly) in
       omega (arith, e, f, h)
 
@@ -153,7 +153,7 @@ module _ (P W : Program) (counted : List (List Bool)) (keeps : Keeps P) (plainly
           let less = ltb-true o.0.owner.0 (length P.classes) (owner_there P keeps (method_id k) o.0 o.1) in
           let is = ap (λ (c : ClassId). c.0) o.2 in
           let n = fiber_number in
-          none_of_owner w.owner (class_id (first_class P + 7)) (fiber_methods Woven (first_class P)) (fiber_owned (first_class P)) w (λ z. omega (arith, z, less, is, n))
+          none_of_owner w.owner (class_id (first_class P + 18)) (fiber_methods Woven (first_class P)) (fiber_owned (first_class P)) w (λ z. omega (arith, z, less, is, n))
 
       methods : all_differ same_method P.methods ≡ true → all_differ same_method (parts.front ++ fiber_methods Woven (first_class P)) ≡ true
       methods h =
@@ -181,7 +181,7 @@ module _ (P W : Program) (counted : List (List Bool)) (keeps : Keeps P) (plainly
   listed_kept c class less h =
       let n = fiber_number in
       let others = owned_none (λ (m : Method). m.owner) c (length P.methods) (fiber_methods Woven (first_class P))
-      (λ k x e z. let is = ap (λ (d : ClassId). d.0) (owned_by (class_id (first_class P + 7)) (fiber_methods Woven (first_class P)) (fiber_owned (first_class P)) k x e) in omega (arith, is, z, less, n)) in
+      (λ k x e z. let is = ap (λ (d : ClassId). d.0) (owned_by (class_id (first_class P + 18)) (fiber_methods Woven (first_class P)) (fiber_owned (first_class P)) k x e) in omega (arith, is, z, less, n)) in
       let same = owned_woven c ∙ (ap (λ (zs : List ℕ). owned_from (λ (m : Method). m.owner) c 0 P.methods ++ zs) others ∙ append-nil _) in
       ap (λ (fs : List Field). bytes_eq (map (λ f. f.0) class.fields) (owned_from (λ (f : Field). f.owner) c 0 fs) && bytes_eq (map (λ m. m.0) class.methods) (owned_from (λ (m : Method). m.owner) c 0 W.methods)) form.fields
       ∙ (ap (λ (zs : List ℕ). bytes_eq (map (λ f. f.0) class.fields) (owned_from (λ (f : Field). f.owner) c 0 P.fields) && bytes_eq (map (λ m. m.0) class.methods) zs) same ∙ h)
@@ -194,11 +194,11 @@ module _ (P W : Program) (counted : List (List Bool)) (keeps : Keeps P) (plainly
       let j = (and_parts (list_all (λ f. has_class P f.owner) P.fields) _ i).0 in
       let fields = ap (owned_from (λ (f : Field). f.owner) c 0) form.fields ∙ owned_none (λ (f : Field). f.owner) c 0 P.fields (λ k f e z. let less = ltb-true f.owner.0 (length P.classes) (all_at (λ (f : Field). has_class P f.owner) P.fields k f j e) in omega (arith, less, z)) in
       let none = owned_none (λ (m : Method). m.owner) c 0 P.methods (λ k m e z. let less = ltb-true m.owner.0 (length P.classes) (owner_there P keeps (method_id k) m e) in omega (arith, less, z)) in
-      let is : first_class P + 7 ≡ 0 + length P.classes = (let n = fiber_number in omega (arith, n)) in
-      let all = owned_every (λ (m : Method). m.owner) c (class_id (first_class P + 7)) (length P.methods) (fiber_methods Woven (first_class P)) (fiber_owned (first_class P)) is in
-      let members = owned_woven c ∙ (ap (λ (zs : List ℕ). zs ++ owned_from (λ (m : Method). m.owner) c (length P.methods) (fiber_methods Woven (first_class P))) none ∙ (all ∙ (ap (λ (n : ℕ). counting n 11) many ∙ counting_more (first_method P) 18 11))) in
+      let is : first_class P + 18 ≡ 0 + length P.classes = (let n = fiber_number in omega (arith, n)) in
+      let all = owned_every (λ (m : Method). m.owner) c (class_id (first_class P + 18)) (length P.methods) (fiber_methods Woven (first_class P)) (fiber_owned (first_class P)) is in
+      let members = owned_woven c ∙ (ap (λ (zs : List ℕ). zs ++ owned_from (λ (m : Method). m.owner) c (length P.methods) (fiber_methods Woven (first_class P))) none ∙ (all ∙ (ap (λ (n : ℕ). counting n 11) many ∙ counting_more (first_method P) 29 11))) in
       and_from (bytes_eq [] (owned_from (λ (f : Field). f.owner) c 0 W.fields)) _ (same_text [] _ (sym fields))
-      (same_text (map (λ (m : MethodId). m.0) fiber.methods) _ (numbers_from (first_method P) (18 ∷ 19 ∷ 20 ∷ 21 ∷ 22 ∷ 23 ∷ 24 ∷ 25 ∷ 26 ∷ 27 ∷ 28 ∷ []) ∙ sym members))
+      (same_text (map (λ (m : MethodId). m.0) fiber.methods) _ (numbers_from (first_method P) (29 ∷ 30 ∷ 31 ∷ 32 ∷ 33 ∷ 34 ∷ 35 ∷ 36 ∷ 37 ∷ 38 ∷ 39 ∷ []) ∙ sym members))
 
   pub members : members_are_owned W ≡ true
   unfolding members_are_owned

@@ -1,6 +1,6 @@
 -- All of it.
 use Rattle.std.proofs.Common.{◌≡◌, Bool, true, false, List, [], ◌∷◌, ◌++◌, Option, Some, None, refl, sym, ap, subst, ◌∙◌, eqb, not}
-use Rattle.std.specs.Prelude.{◌||◌, nat_lt, codes}
+use Rattle.std.specs.Prelude.{◌||◌, nat_lt, slice_get, codes}
 use Rattle.std.specs.List.{list_all}
 use Rattle.std.specs.Str.{bytes_eq}
 use Rattle.std.proofs.lemmas.Bool.{and_parts, and_from}
@@ -14,7 +14,9 @@ use Rattle.kilim_program.specs.declared.ty.Ty.{Ty}
 use Rattle.kilim_program.specs.declared.value.Value.{Value}
 use Rattle.kilim_program.specs.declared.value.Value.TheVariants.{Int, Long, Text}
 use Rattle.kilim_program.specs.Keeps.{Keeps, begins_as_array, constant_fits, constants_fit, is_object, is_open_superclass, is_string_base, none_is_named_as_array, own_class_fits, own_classes_fit, own_count}
-use Rattle.kilim_program.specs.Names.{is_named_task}
+use Rattle.kilim_program.specs.BuiltIn.{is_exception}
+use Rattle.kilim_program.specs.Names.{class_at, class_name, is_named_task}
+use Rattle.kilim_lemmas.proofs.Lists.{get_left}
 use Rattle.kilim_program.specs.Program.{Program}
 use Rattle.kilim_weave_spec.specs.Form.{WovenForm}
 use Rattle.kilim_weave_laws.proofs.woven_programs.ClassLists.{named_kept}
@@ -40,13 +42,24 @@ module _ (P W : Program) (counted : List (List Bool)) (keeps : Keeps P) (plainly
   unfolding none_is_named_as_array
   class_names = ap (list_all (λ (c : Class). not (begins_as_array c.name))) more ∙ all_joined (λ (c : Class). not (begins_as_array c.name)) P.classes (fiber ∷ []) keeps.class_names refl
 
+  -- a class of exceptions has its name
+  exception_kept : (up : ClassId) → is_exception (class_name P up) ≡ true → is_exception (class_name W up) ≡ true
+  exception_kept up h = by (class_at P up) refl h
+    where
+      by : (o : Option Class) → class_at P up ≡ o → is_exception (elim o [ None ↦ [] | Some class ↦ class.name ]) ≡ true → is_exception (class_name W up) ≡ true
+      by None at h = absurd (cc)
+      by (Some class) at h =
+          ap (λ (o : Option Class). is_exception (elim o [ None ↦ [] | Some class ↦ class.name ])) (ap (λ (cs : List Class). slice_get cs up.0) more ∙ get_left P.classes (fiber ∷ []) up.0 class at) ∙ h
+
   open_kept : (up : Option ClassId) → is_open_superclass P up ≡ true → is_open_superclass W up ≡ true
   open_kept None h = absurd (cc)
   open_kept (Some up) h =
-      or_kept (nat_lt up.0 (own_count P)) (nat_lt up.0 (own_count W)) (is_object P up || is_named_task P up) (is_object W up || is_named_task W up)
+      or_kept (nat_lt up.0 (own_count P)) (nat_lt up.0 (own_count W)) (is_object P up || (is_named_task P up || is_exception (class_name P up))) (is_object W up || (is_named_task W up || is_exception (class_name W up)))
       (λ e. ap (nat_lt up.0) (own_after P W counted keeps plainly form ∙ sym (own_before P W counted keeps plainly form)) ∙ e)
-      (λ e. or_kept (is_object P up) (is_object W up) (is_named_task P up) (is_named_task W up)
-      (λ h. named_kept P W fiber more (codes "java/lang/Object") up refl h) (λ h. named_kept P W fiber more (codes "kilim/Task") up refl h) e)
+      (λ e. or_kept (is_object P up) (is_object W up) (is_named_task P up || is_exception (class_name P up)) (is_named_task W up || is_exception (class_name W up))
+      (λ h. named_kept P W fiber more (codes "java/lang/Object") up refl h)
+      (λ f. or_kept (is_named_task P up) (is_named_task W up) (is_exception (class_name P up)) (is_exception (class_name W up))
+      (λ h. named_kept P W fiber more (codes "kilim/Task") up refl h) (exception_kept up) f) e)
       h
 
   fits_kept : (c : Class) → own_class_fits P c ≡ true → own_class_fits W c ≡ true

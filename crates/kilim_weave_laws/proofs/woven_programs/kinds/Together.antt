@@ -134,9 +134,9 @@ module _ (P W : Program) (counted : List (List Bool)) (keeps : Keeps P) (plainly
 
       no_task : is_task P object ≡ false
       no_task =
-          let number : length P.classes ≡ suc (length keeps.built_in.own_classes + 6) = (let n = how_many P W counted keeps plainly form in omega (arith, n)) in
+          let number : length P.classes ≡ suc (length keeps.built_in.own_classes + 17) = (let n = how_many P W counted keeps plainly form in omega (arith, n)) in
           ap (λ (n : ℕ). list_any (is_named_task P) (line_up_to P n object)) number
-          ∙ (ap (λ (o : Option ClassId). list_any (is_named_task P) (object ∷ elim o [ None ↦ [] | Some u ↦ line_up_to P (length keeps.built_in.own_classes + 6) u ])) up_none
+          ∙ (ap (λ (o : Option ClassId). list_any (is_named_task P) (object ∷ elim o [ None ↦ [] | Some u ↦ line_up_to P (length keeps.built_in.own_classes + 17) u ])) up_none
           ∙ (ap (λ (n : List ℕ). bytes_eq n (codes "kilim/Task") || false) (named ∙ object_there.3)))
         where
           up_none : up P object ≡ None

@@ -197,10 +197,10 @@ module _ (P W : Program) (counted : List (List Bool)) (keeps : Keeps P) (plainly
 
   object_line : flat_map (methods_of W) (line_of W object) ≡ made ∷ []
   object_line =
-      let number : length P.classes ≡ suc (length keeps.built_in.own_classes + 6) = (let n = how_many P W counted keeps plainly form in omega (arith, n)) in
+      let number : length P.classes ≡ suc (length keeps.built_in.own_classes + 17) = (let n = how_many P W counted keeps plainly form in omega (arith, n)) in
       ap (flat_map (methods_of W)) (whole_same P W keeps fiber more object object_is_in)
       ∙ (line_methods (length P.classes) object object_is_in
-      ∙ (ap (λ (n : ℕ). flat_map (methods_of P) (line_up_to P n object)) number ∙ object_methods (length keeps.built_in.own_classes + 6)))
+      ∙ (ap (λ (n : ℕ). flat_map (methods_of P) (line_up_to P n object)) number ∙ object_methods (length keeps.built_in.own_classes + 17)))
 
   fiber_there : (n : ℕ) → n ≡ length P.classes → class_at W (class_id n) ≡ Some fiber
   fiber_there n is = ap (λ (k : ℕ). slice_get W.classes k) is ∙ (ap (λ (cs : List Class). slice_get cs (length P.classes)) more ∙ get_last P.classes fiber)
@@ -233,12 +233,12 @@ module _ (P W : Program) (counted : List (List Bool)) (keeps : Keeps P) (plainly
   fiber_fine : list_all fine (fiber_methods Woven (first_class P)) ≡ true
   fiber_fine = each (fiber_methods Woven (first_class P)) (fiber_owned (first_class P)) (fiber_plain (first_class P))
     where
-      above : flat_map (methods_of W) (ancestors_of W (class_id (first_class P + 7))) ≡ made ∷ []
+      above : flat_map (methods_of W) (ancestors_of W (class_id (first_class P + 18))) ≡ made ∷ []
       above =
-          let number : first_class P + 7 ≡ length P.classes = (let e = first_is P W counted keeps plainly form in let n = how_many P W counted keeps plainly form in omega (arith, e, n)) in
-          ap (λ (o : Option Class). flat_map (methods_of W) (line_above W (superclass_of o))) (fiber_there (first_class P + 7) number) ∙ object_line
+          let number : first_class P + 18 ≡ length P.classes = (let e = first_is P W counted keeps plainly form in let n = how_many P W counted keeps plainly form in omega (arith, e, n)) in
+          ap (λ (o : Option Class). flat_map (methods_of W) (line_above W (superclass_of o))) (fiber_there (first_class P + 18) number) ∙ object_line
 
-      each : (ms : List Method) → AllOwned (λ (m : Method). m.owner) (class_id (first_class P + 7)) ms → list_all (λ m. not (bytes_eq m.name (codes "<init>"))) ms ≡ true → list_all fine ms ≡ true
+      each : (ms : List Method) → AllOwned (λ (m : Method). m.owner) (class_id (first_class P + 18)) ms → list_all (λ m. not (bytes_eq m.name (codes "<init>"))) ms ≡ true → list_all fine ms ≡ true
       each [] all named = refl
       each (m ∷ ms) all named =
           let p = and_parts (not (bytes_eq m.name (codes "<init>"))) _ named in
@@ -353,44 +353,44 @@ module _ (P W : Program) (counted : List (List Bool)) (keeps : Keeps P) (plainly
       sym (get_right r.0 (fiber_methods Woven (first_class P)) x.0 k (omega (arith, n, past))) ∙ (sym (ap (λ (ms : List Method). slice_get ms x.0) r.1) ∙ at) in
       not-true m.is_abstract (all_at (λ m. not m.is_abstract) (fiber_methods Woven (first_class P)) k m (fiber_concrete (first_class P)) there)
 
-  many_methods : length P.methods ≡ first_method P + 18
+  many_methods : length P.methods ≡ first_method P + 29
   many_methods =
       let e = first_methods P W counted keeps plainly form in
-      let f : first_method P ≡ length P.methods - 18 = refl in
+      let f : first_method P ≡ length P.methods - 29 = refl in
       let h = ap length keeps.built_in.methods ∙ (length-append keeps.built_in.own_methods _ ∙ ap (λ f. length keeps.built_in.own_methods + length (built_in_methods_in f (length keeps.built_in.own_classes))) plainly) in
       omega (arith, e, f, h)
 
-  none_of_fiber : (c : ClassId) (ks : List ℕ) → list_all (nat_le 18) ks ≡ true → list_any (λ m. is_left_abstract W c m (method_at W m)) (methods_from (first_method P) ks ++ made ∷ []) ≡ false
+  none_of_fiber : (c : ClassId) (ks : List ℕ) → list_all (nat_le 29) ks ≡ true → list_any (λ m. is_left_abstract W c m (method_at W m)) (methods_from (first_method P) ks ++ made ∷ []) ≡ false
   none_of_fiber c [] h =
       let w = woven made made_there.0 made_there.1 in
       or_from (is_left_abstract W c made (method_at W made)) false (concrete_by c made (method_at W made) (λ m e. let s : w.0 ≡ m = (let t : Some w.0 ≡ Some m = sym w.1 ∙ e in cc) in ap (λ (z : Method). z.is_abstract) (sym s) ∙ (w.2.is_abstract ∙ made_there.3))) refl
   none_of_fiber c (k ∷ ks) h =
-      let p = and_parts (nat_le 18 k) _ h in
+      let p = and_parts (nat_le 29 k) _ h in
       let x = method_id (first_method P + k) in
       let n = many_methods in
-      let l = leb-true 18 k p.0 in
+      let l = leb-true 29 k p.0 in
       or_from (is_left_abstract W c x (method_at W x)) _ (concrete_by c x (method_at W x) (λ m e. behind x m (omega (arith, n, l)) e)) (none_of_fiber c ks p.1)
 
   fiber_left : list_any (λ m. is_left_abstract W last m (method_at W m)) (flat_map (methods_of W) (line_of W last)) ≡ false
   fiber_left =
       ap (list_any (λ m. is_left_abstract W last m (method_at W m))) line
-      ∙ none_of_fiber last (18 ∷ 19 ∷ 20 ∷ 21 ∷ 22 ∷ 23 ∷ 24 ∷ 25 ∷ 26 ∷ 27 ∷ 28 ∷ []) refl
+      ∙ none_of_fiber last (29 ∷ 30 ∷ 31 ∷ 32 ∷ 33 ∷ 34 ∷ 35 ∷ 36 ∷ 37 ∷ 38 ∷ 39 ∷ []) refl
     where
       number : 0 + length P.classes ≡ length P.classes
       number = omega arith
 
       object_again : flat_map (methods_of W) (line_up_to W (length P.classes) object) ≡ made ∷ []
       object_again =
-          let many : length P.classes ≡ suc (length keeps.built_in.own_classes + 6) = (let n = how_many P W counted keeps plainly form in omega (arith, n)) in
+          let many : length P.classes ≡ suc (length keeps.built_in.own_classes + 17) = (let n = how_many P W counted keeps plainly form in omega (arith, n)) in
           ap (flat_map (methods_of W)) (line_same P W keeps fiber more (length P.classes) object object_is_in)
           ∙ (line_methods (length P.classes) object object_is_in
-          ∙ (ap (λ (n : ℕ). flat_map (methods_of P) (line_up_to P n object)) many ∙ object_methods (length keeps.built_in.own_classes + 6)))
+          ∙ (ap (λ (n : ℕ). flat_map (methods_of P) (line_up_to P n object)) many ∙ object_methods (length keeps.built_in.own_classes + 17)))
 
-      line : flat_map (methods_of W) (line_of W last) ≡ methods_from (first_method P) (18 ∷ 19 ∷ 20 ∷ 21 ∷ 22 ∷ 23 ∷ 24 ∷ 25 ∷ 26 ∷ 27 ∷ 28 ∷ []) ++ made ∷ []
+      line : flat_map (methods_of W) (line_of W last) ≡ methods_from (first_method P) (29 ∷ 30 ∷ 31 ∷ 32 ∷ 33 ∷ 34 ∷ 35 ∷ 36 ∷ 37 ∷ 38 ∷ 39 ∷ []) ++ made ∷ []
       line =
           ap (λ (n : ℕ). flat_map (methods_of W) (line_up_to W n last)) (one_more P W fiber more)
           ∙ (ap (λ (o : Option Class). elim o [ None ↦ [] | Some class ↦ class.methods ] ++ flat_map (methods_of W) (elim (o >>= λ (class : Class). class.superclass) [ None ↦ [] | Some u ↦ line_up_to W (length P.classes) u ])) (fiber_there (0 + length P.classes) number)
-          ∙ ap (λ (ms : List MethodId). methods_from (first_method P) (18 ∷ 19 ∷ 20 ∷ 21 ∷ 22 ∷ 23 ∷ 24 ∷ 25 ∷ 26 ∷ 27 ∷ 28 ∷ []) ++ ms) object_again)
+          ∙ ap (λ (ms : List MethodId). methods_from (first_method P) (29 ∷ 30 ∷ 31 ∷ 32 ∷ 33 ∷ 34 ∷ 35 ∷ 36 ∷ 37 ∷ 38 ∷ 39 ∷ []) ++ ms) object_again)
 
   abstract_left : none_is_left_abstract W ≡ true
   unfolding none_is_left_abstract

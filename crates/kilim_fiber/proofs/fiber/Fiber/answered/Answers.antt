@@ -43,4 +43,4 @@ pub returns-in-Started : goal.returns-in-Started
 returns-in-Started c = answer_now c.args.code.now.plain c.args.code.now.program c.args.asked (asked.Start c.in-Start.shape) c.args.answer (answer.Started c.in-Started.number) c.args.self.now c.pass_on-in-Started.new.self c.in-Start.is c.in-Started.is c.pass_on-in-Started.ensures
 
 pub returns-in-Done : goal.returns-in-Done
-returns-in-Done c = answer_now c.args.code.now.plain c.args.code.now.program c.args.asked (asked.Print c.in-Print.shape) c.args.answer answer.Done c.args.self.now c.pass_on-in-Done.new.self c.in-Print.is c.in-Done.is c.pass_on-in-Done.ensures
+returns-in-Done c = answer_now c.args.code.now.plain c.args.code.now.program c.args.asked (asked.Bound c.in-Bound.mailbox c.in-Bound.most) c.args.answer answer.Done c.args.self.now c.pass_on-in-Done.new.self c.in-Bound.is c.in-Done.is c.pass_on-in-Done.ensures

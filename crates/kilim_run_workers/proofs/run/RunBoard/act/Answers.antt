@@ -5,6 +5,7 @@ use Rattle.kilim_run_turn.specs.Turns.{KeepsOthers}
 use Rattle.kilim_run_workers.specs.Codes.{board_cells}
 use Rattle.kilim_run_workers.proofs.Effects.{all_keep, lent_now, stands_now, others_now, acted_now, bounds_now, is_actable}
 use Rattle.kilim_run_workers.proofs.Others.{cells_same}
+use Rattle.kilim_run_workers.proofs.Given.{act_continues, same_begins}
 use Rattle.kilim_run_workers.proofs.run.RunBoard.act.Goals as goal
 
 pub act-requires-clause-lent : goal.act-requires-clause-lent
@@ -27,6 +28,10 @@ invariant_of-self g c = (
   c.act.ensures.roomy,
   λ set is. (stands_now (seen c.self.inside.board) (seen c.reserve.new.self) c.args.seat (g.F.Fibers.task_of c.args.fiber.now) (g.F.Fibers.course_of c.args.fiber.now) c.args.wants g.F.Fibers.task_of g.F.Fibers.course_of g.F.Fibers.holds g.K.Run.of c.requires.some
       (ap (λ b. cell_at (board_cells b) c.args.seat) c.self.view_is ∙ c.requires.lent) c.in-Ok.ensures.same c.requires.meets (λ set is. c.in-Ok.ensures.stands set (c.self.invariant.1 set is)) (seen c.act.new.self) c.act.result c.act.ensures.stands set is).0,
+  act_continues g.K.Run.given (seen c.reserve.new.self) (seen c.act.new.self) c.args.seat (same_begins g.K.Run.given (seen c.self.inside.board).journal (seen c.reserve.new.self).journal c.in-Ok.ensures.same.run.journal c.self.invariant.2)
+      (IsNumbered g.F.Fibers.task_of g.F.Fibers.course_of g.F.Fibers.count_of g.F.Fibers.refused g.F.Fibers.holds) _ c.args.wants c.act.result
+      (c.act.ensures.effect _ (lent_now (seen c.self.inside.board) (seen c.reserve.new.self) c.args.seat (g.F.Fibers.task_of c.args.fiber.now) (g.F.Fibers.course_of c.args.fiber.now) c.args.wants g.F.Fibers.task_of g.F.Fibers.course_of g.F.Fibers.holds g.K.Run.of c.requires.some
+      (ap (λ b. cell_at (board_cells b) c.args.seat) c.self.view_is ∙ c.requires.lent) c.in-Ok.ensures.same c.requires.meets (λ set is. c.in-Ok.ensures.stands set (c.self.invariant.1 set is))).0),
 )
 
 pub returns-in-Ok-clause-others : goal.returns-in-Ok-clause-others
@@ -51,4 +56,5 @@ pub invariant_of-self-in-Err : goal.invariant_of-self-in-Err
 invariant_of-self-in-Err g c = (
   c.in-Err.ensures.roomy,
   λ set is. c.in-Err.ensures.stands set (c.self.invariant.1 set is),
+  same_begins g.K.Run.given (seen c.self.inside.board).journal (seen c.reserve.new.self).journal c.in-Err.ensures.same.run.journal c.self.invariant.2,
 )

@@ -34,7 +34,7 @@ use Rattle.kilim_fiber_spec.specs.Fibers.{executes_on}
 use Rattle.kilim_fiber_spec.specs.Form.{Facts}
 use Rattle.kilim_fiber_spec.specs.Links.{Link, Lk, u_frames, Forms, code, Leaf, Takes, Fit, Redoes, AreReady, AllStand, AllFit, SlotsFit, plan_of}
 use Rattle.kilim_fiber_spec.specs.Rows.{OldHeap, is_old_base, Receives, IsClean}
-use Rattle.kilim_fiber_spec.specs.Serves.{From, Known, is_leaf, leaf_receiver}
+use Rattle.kilim_fiber_spec.specs.Serves.{From, Known, is_leaf, leaf_receiver, resting_heap}
 use Rattle.kilim_fiber_spec.specs.Thread.{Frame, Thread, Run, Stop, own_of, fetch, self_of, step, steps}
 use Rattle.kilim_fiber_spec.specs.Rooms.{GivesWhole, HasRoom, bare_frames}
 use Rattle.kilim_type_sound.specs.Fits.{AreThere, IsThere}
@@ -216,12 +216,12 @@ module _ (form : Forms two_steps woven_loop woven_loop_marks) (facts : (m : Meth
   Ready (Run m p l s x b w) =
       (to : ℕ) (i : Instr) (callee : Method) (s2 args wl : List Value) (number : ℕ) (was : Value) (links : List Link) (c : MethodId) (leaf : Native) → b ≡ u_frames links → fetch loop m p ≡ Some (i, to) → pausable_callee loop i ≡ Some callee →
       does loop (own_of loop m) i to l s w.heap ≡ Asks c args to l s2 w.heap → native_of loop c ≡ Some leaf → is_leaf leaf ≡ true → AllStand two_steps woven_loop woven_loop_marks form links →
-      (w.kept ≡ None) × AreReady two_steps woven_loop woven_loop_marks form w.heap (Leaf leaf) (leaf_receiver leaf args) (Lk m p to i callee s2 l wl x number was ∷ links)
+      (w.kept ≡ None) × AreReady two_steps woven_loop woven_loop_marks form (resting_heap loop leaf args w.heap) (Leaf leaf) (leaf_receiver leaf args) (Lk m p to i callee s2 l wl x number was ∷ links)
   Ready (Stop over) = Unit {0}
 
   abbrev ReadyAs : Native → List Value → MethodId → ℕ → Instr → Method → List Value → List Value → ℕ → Value → Type 0
   ReadyAs leaf args m to i callee s2 wl number was =
-      AreReady two_steps woven_loop woven_loop_marks form one_object (Leaf leaf) (leaf_receiver leaf args) (Lk m 0 to i callee s2 (Ref 0 ∷ []) wl (Ref 0) number was ∷ [])
+      AreReady two_steps woven_loop woven_loop_marks form (resting_heap loop leaf args one_object) (Leaf leaf) (leaf_receiver leaf args) (Lk m 0 to i callee s2 (Ref 0 ∷ []) wl (Ref 0) number was ∷ [])
 
   ready_at : (done : ℕ) → Ready (standing 0 done)
   unfolding does
@@ -341,7 +341,7 @@ module _ (form : Forms two_steps woven_loop woven_loop_marks) (facts : (m : Meth
         (λ to q i l2 s2 args heap c e d. takes_none yields i 3 to q l2 s2 args heap c yield_calls_none e d)
         tt (Run m p l s x b w) f to q i l2 s2 args heap c e d;
     begins = λ c n e. subst (λ (z : MethodId). Takes two_steps woven_loop woven_loop_marks form z (Ref n ∷ []) (Ref n)) (same_Some (method_id 1) c e) (takes_one n);
-    ready = λ m p to i callee l s s2 args wl x number was links w c leaf f e pc d nat isleaf stand.
+    ready = λ m p to i callee l s s2 args wl x number was links w c leaf f e pc d nat isleaf stand may.
         at_each Ready (ready_at 0) (ready_none 1) (ready_at 2) tt (Run m p l s x (u_frames links) w) f to i callee s2 args wl number was links c leaf refl e pc d nat isleaf stand;
     stack_there = λ m p l s x b w f. at_each StackThere tt tt tt tt (Run m p l s x b w) f;
     self_there = λ m p l s x b w f pausable. at_each SelfThere one one one tt (Run m p l s x b w) f;

@@ -34,7 +34,7 @@ one_object = insert empty 0 (record { class = class_type 0; fields = []; element
 
 -- so many instructions are done
 abbrev pub after : ℕ → World
-after n = record { task = 0; heap = one_object; next = 1; kept = None; deeds = []; acts = []; done = n; boxes = 0 }
+after n = record { task = 0; heap = one_object; next = 1; kept = None; deeds = []; acts = []; done = n; boxes = 0; aside = [] }
 
 -- `execute` begins
 abbrev pub first : Thread

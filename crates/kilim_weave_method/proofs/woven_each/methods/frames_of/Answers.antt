@@ -1,7 +1,6 @@
-use Rattle.std.proofs.Common.{sym}
 use Rattle.kilim_weave_method.proofs.woven_each.OfKind.{frames_are}
 use Rattle.kilim_weave_method.proofs.woven_each.methods.frames_of.Goals as goal
 
-pub returns-in-Some : goal.returns-in-Some
-returns-in-Some c = λ code.
-    frames_are c.typed_by_place.ensures (record { program = c.args.program.now; frames = c.args.frames.now }) c.keeps.ensures c.requires.typed c.args.id c.args.method.now c.requires.there code c.in-Some.found.now (sym c.in-Some.ensures)
+pub returns : goal.returns
+returns c = λ code.
+    frames_are c.typed_by_place.ensures (record { program = c.args.program.now; frames = c.args.frames.now }) c.keeps.ensures c.requires.typed c.args.id c.args.method.now c.requires.there code c.frames_at.result.now c.frames_at.ensures

@@ -6,7 +6,7 @@ use Rattle.kilim_weave_method.proofs.woven_each.methods.woven_at.Goals as goal
 pub woven_each-requires : goal.woven_each-requires
 woven_each-requires c = record {
   there = c.requires.there;
-  listed = λ code. subst (λ (fs : List Frame). Listed c.args.program.now c.args.method.now fs) (sym c.as_slice.ensures) (c.in_ok-found.ensures code);
+  listed = λ code. subst (λ (fs : List Frame). Listed c.args.program.now c.args.method.now fs) (sym c.as_slice.ensures) (c.frames_of-found.ensures code);
 }
 
 pub returns : goal.returns

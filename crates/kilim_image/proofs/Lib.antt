@@ -1,0 +1,4 @@
+pub mod Formats
+pub mod Whole
+pub mod Lines
+pub mod Sizes

@@ -1,0 +1,8 @@
+use Rattle.std.proofs.Common.{◌≡◌, ◌++◌, take}
+use Rattle.std.specs.List.{flat_map}
+use Rattle.std.specs.Int.{w32}
+use Rattle.kilim_image.specs.Text.{block}
+use Rattle.kilim_image.proofs.writing.push_each_file.Given as goal
+
+abbrev pub invariant-loop-file : goal.invariant-loop-file
+invariant-loop-file l = l.into.items ≡ l.fn.into.items ++ flat_map (block w32) (take l.file-index l.files)

@@ -1,0 +1,5 @@
+pub mod Balances
+pub mod Rests
+pub mod Mailboxes
+pub mod Shapes
+pub mod Goings

@@ -1,0 +1,4 @@
+pub mod Ledger
+pub mod Closing
+pub mod Mailboxes
+pub mod Goings

@@ -1,0 +1,6 @@
+//! The mailboxes of a turn, by their names.
+#![tactic(auto)]
+
+mod posts;
+
+pub use posts::Posts;

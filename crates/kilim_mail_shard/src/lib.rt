@@ -1,0 +1,6 @@
+//! A mailbox of a turn, with its clock.
+#![tactic(auto)]
+
+mod post;
+
+pub use post::{Message, Post};

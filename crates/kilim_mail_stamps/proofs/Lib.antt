@@ -1,0 +1,9 @@
+pub mod Order
+pub mod Steps
+pub mod Begins
+pub mod Weights
+pub mod Sorted
+pub mod Merges
+pub mod Joins
+pub mod Aparts
+pub mod Examples

@@ -1,0 +1,4 @@
+pub mod Stamps
+pub mod Leading
+pub mod Merging
+pub mod Examples

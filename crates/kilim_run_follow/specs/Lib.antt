@@ -1,0 +1,4 @@
+pub mod Follow
+pub mod Lending
+pub mod Steps
+pub mod Resuming
