@@ -30,8 +30,6 @@ use Rattle.kilim_isolation.specs.Faults.{IsAccepted}
 use Rattle.kilim_isolation.specs.Laws.{GoesOn}
 use Rattle.kilim_isolation.specs.Walks.{entry_graph, exits_by, machine_of}
 use Rattle.kilim_type_sound.proofs.Behind.{stands_behind_it}
-use Rattle.kilim_type_sound.proofs.Caught.{place_entry}
-use Rattle.kilim_type_sound.specs.Facts.{HasTable}
 use Rattle.kilim_run_machine.specs.Raising.{is_throwable}
 use Rattle.kilim_isolation_rules.specs.Marks.{is_tree}
 use Rattle.kilim_isolation_rules.specs.Rules.{raised_deed}
@@ -65,12 +63,12 @@ module _ (p : Program) (keeps : Keeps p) (well : IsWellTyped p) (accepted : IsAc
         Passes p m (typing_at p id) (listed_at p id) f at g i to) (first_same (entry_graph p m) goes.first first goes.begins e) (λ at g r i next f to h. let w = walks_by_types (typed p) (record { typed = well; frames = refl }) keeps id m is coded goes at next i g to r f h in record { passed = w.moved; arrives = w.comes });
     handled = λ first e. subst (λ (f : Graph). (at : ℕ) (g : Graph) → Reaches (machine_of p m (listed_at p id) f) at g → (i : Instr) (next : ℕ) → fetched m.code m.code_length at ≡ Some (i, next) → (hd : Handler) → Has m.handlers hd → covers hd at ≡ true →
         Handled p m (typing_at p id) (listed_at p id) f (typing_at p id at) (raised_deed p g (typing_at p id at) i).graph hd) (first_same (entry_graph p m) goes.first first goes.begins e)
-        (λ at g r i next f hd has covering. handled_by_types (typed p) (record { typed = well; frames = refl }) keeps (private (record { id = id; method = m; there = is; entry = hd; among = place_entry m.handlers has.0 hd has.1 })) id m is coded goes at next i g r f hd has covering);
+        (λ at g r i next f hd has covering. handled_by_types (typed p) (record { typed = well; frames = refl }) keeps private id m is coded goes at next i g r f hd has covering);
     behind = stands_behind_it p keeps id m is;
   }
     where
-      private : HasTable p → (c : ClassId) → is_throwable p c ≡ true → is_tree p (class_vtype c) ≡ false
-      private table c throwable = ap is_tree_kind ((program_keeps p keeps).thrown table c throwable)
+      private : (c : ClassId) → is_throwable p c ≡ true → is_tree p (class_vtype c) ≡ false
+      private c throwable = ap is_tree_kind ((program_keeps p keeps).thrown c throwable)
 
       goes : GoesOn p m (listed_at p id)
       goes = every_method_goes (typed p) keeps accepted id m is coded

@@ -36,9 +36,8 @@ use Rattle.kilim_run_state.specs.Shapes.{shape_of}
 use Rattle.kilim_run_state.specs.Trees.{OfMessage, built, tree_names, with_objects, without}
 use Rattle.kilim_run_journal.specs.declared.entry.Act.{Act}
 use Rattle.kilim_run_journal.specs.declared.entry.Act.TheVariants.{Put, Take, Empty, Start, Print, End, Bound}
-use Rattle.kilim_type_sound.proofs.Caught.{index_is, other_is, thrown_table, unwound_table}
+use Rattle.kilim_type_sound.proofs.Caught.{index_is, other_is}
 use Rattle.kilim_type_sound.proofs.Raised.{of_has, raises_has, throws_has}
-use Rattle.kilim_type_sound.specs.Facts.{HasTable}
 use Rattle.kilim_run_model.specs.State.{Setting, Thread, Alive, Ended, begun_on, is_fit}
 use Rattle.kilim_run_model.specs.Lone.{Lone, Next, Goes, Puts, PutWaits, Bounds, Gets, Probes, Starts, Prints, Ends, Stands, arg_at, arg_next, asks_next, begins_next, box_limit, ended, finish_next, frames_next, message_next, native_next, next_by, next_move, on_heap, opens_next, over, print_next, printed, pushed, put_next, raised, put_wait_next, bound_next, start_next, thread_next, wait_next, went}
 use Rattle.kilim_run_model.specs.Course.{Done, done_by, fills_deed, probes_deed, puts_deed, received, starts_deed, takes_deed, tree_came, tree_left}
@@ -132,9 +131,9 @@ module _ (set : Setting) (wanted : Wanted) (listed : Listed) (sound : IsSound se
   -- ---- what is thrown
 
   -- a new object of a class that can be thrown
-  object_thrown : HasTable p → (h : Objects) (q : ℕ) (c : ClassId) → is_throwable p c ≡ true → IsThrown p (insert h q (new_object p c)) c q
-  object_thrown table h q c throwable =
-      let own : object_sort p (class_type c.0) ≡ Own = ap (sort_by p (class_type c.0)) (sound.keeps.thrown table c throwable) in
+  object_thrown : (h : Objects) (q : ℕ) (c : ClassId) → is_throwable p c ≡ true → IsThrown p (insert h q (new_object p c)) c q
+  object_thrown h q c throwable =
+      let own : object_sort p (class_type c.0) ≡ Own = ap (sort_by p (class_type c.0)) (sound.keeps.thrown c throwable) in
       record { is = (new_object p c, put_there h q (new_object p c), own); own = own; throwable = throwable }
 
   -- the instruction of the top frame
@@ -191,10 +190,9 @@ module _ (set : Setting) (wanted : Wanted) (listed : Listed) (sound : IsSound se
       -- what is raised for a cause, behind the call
       asked_raises : (why : EndCause) → NextStands (raised p behind why)
       asked_raises why = of_has NextStands p behind why tt (done + 1) boxes (λ c. unwound p c (Ref l.next) frames) (raised_class p other_index why) (λ c e f fs left more on.
-          let table = unwound_table p c (Ref l.next) frames f fs left in
-          let known = (facts_hold p is.keeps).raised table other_index other_is why c e in
+          let known = (facts_hold p is.keeps).raised other_index other_is why c e in
           subst (λ (left : List Activation). CaughtFit p (typing_at p) listed l.kept (insert h l.next (new_object p c)) left) left
-          (fits.raises c l.next (no_object l.next (omega arith)) (new_object_fits p sound.keeps.may c h l.next) (object_thrown table h l.next c known.0)))
+          (fits.raises c l.next (no_object l.next (omega arith)) (new_object_fits p sound.keeps.may c h l.next) (object_thrown h l.next c known.0)))
 
       receives : (k : Native) → native_of p id ≡ Some k → gives number k ≡ Some message → Receives behind
       receives k known some objects shape e =
@@ -340,16 +338,14 @@ module _ (set : Setting) (wanted : Wanted) (listed : Listed) (sound : IsSound se
       move_stands top below f there stood (move.Asks id args frames h) same typed fits = asks_stand id args frames h typed fits (native_of p id) refl
       move_stands top below f there stood (move.Returns h) same typed fits = finish_stands h typed l.kept refl fits
       move_stands top below f there stood (move.Raises why) same typed fits = raises_has NextStands p l why tt done boxes top below (λ c e g gs left more on.
-          let table = thrown_table p c (Ref l.next) top below g gs left in
-          let known = (facts_hold p is.keeps).raised table (index_at p top) (index_is p top) why c e in
+          let known = (facts_hold p is.keeps).raised (index_at p top) (index_is p top) why c e in
           let free = unnamed_yet l.heap l.next f.heap (fresh l.next (omega arith)) in
           subst (λ (left : List Activation). CaughtFit p (typing_at p) listed l.kept (insert l.heap l.next (new_object p c)) left) left
           (thrown_stands of l.kept top below l.heap (insert l.heap l.next (new_object p c)) f
-          (new_objects_keep p (typing_at p) listed l.kept top below l.heap l.next (new_object p c) free (zero_holds p c) (new_object_fits p sound.keeps.may c l.heap l.next) stood) c l.next (object_thrown table l.heap l.next c known.0)))
+          (new_objects_keep p (typing_at p) listed l.kept top below l.heap l.next (new_object p c) free (zero_holds p c) (new_object_fits p sound.keeps.may c l.heap l.next) stood) c l.next (object_thrown l.heap l.next c known.0)))
       move_stands top below f there stood (move.Throws object class why) same typed fits = throws_has NextStands p l why tt (done + 1) boxes (thrown p class (Ref object) top below) (λ g gs left more on.
-          let table = thrown_table p class (Ref object) top below g gs left in
           let is_there = thrown_is_there p (typing_at p) wanted of is.keeps is.verified top below l.heap f there object class why same in
-          let own : object_sort p (class_type class.0) ≡ Own = ap (sort_by p (class_type class.0)) (sound.keeps.thrown table class is_there.1) in
+          let own : object_sort p (class_type class.0) ≡ Own = ap (sort_by p (class_type class.0)) (sound.keeps.thrown class is_there.1) in
           let class_is = some_same (of object) is_there.2.0.class (class_type class.0) (f.heap.classes object is_there.2.0 is_there.2.1) is_there.0 in
           subst (λ (left : List Activation). CaughtFit p (typing_at p) listed l.kept l.heap left) left
           (thrown_stands of l.kept top below l.heap l.heap f stood class object (record { is = (is_there.2.0, is_there.2.1, ap (object_sort p) class_is ∙ own); own = own; throwable = is_there.1 })))

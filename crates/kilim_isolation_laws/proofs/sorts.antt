@@ -5,3 +5,4 @@ pub mod Choosing
 pub mod TakeRow
 pub mod FieldSorts
 pub mod Keeping
+pub mod Thrown

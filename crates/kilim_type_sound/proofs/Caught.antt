@@ -1,6 +1,6 @@
 -- Where an object is thrown, the frames that are left fit the frames of verification: the first entry that catches it is found, and what
 -- is wanted at its handler is there before the instruction, or the call, that it covers.
-use Rattle.std.proofs.Common.{◌≡◌, ℕ, zero, suc, Bool, true, false, true≢false, cond, ◌&&◌, if◌then◌else◌, List, [], ◌∷◌, Option, Some, None, refl, sym, ap, subst, ◌∙◌, inl, inr}
+use Rattle.std.proofs.Common.{◌≡◌, ℕ, suc, Bool, true, false, true≢false, cond, ◌&&◌, if◌then◌else◌, List, [], ◌∷◌, Option, Some, None, refl, sym, ap, subst, ◌∙◌, inl, inr}
 use Rattle.std.specs.Prelude.{◌==◌, codes, is_some, slice_get}
 use Rattle.std.specs.FinMap.{insert}
 use Rattle.std.specs.List.{list_any}
@@ -28,7 +28,7 @@ use Rattle.kilim_type_spec.specs.Step.{Types, assignable, class_vtype, is_top, v
 use Rattle.kilim_type_spec.specs.Typed.{FlowsInto, WellTypedBy, all_assignable, caught_type, declared, has_code}
 use Rattle.kilim_type_laws.proofs.Edges.{caught_at}
 use Rattle.kilim_type_laws.proofs.Handlers.{among_handlers}
-use Rattle.kilim_type_sound.specs.Facts.{Facts, HasTable, IsIndexName, Ordered}
+use Rattle.kilim_type_sound.specs.Facts.{Facts, IsIndexName, Ordered}
 use Rattle.kilim_type_sound.specs.Fits.{BelowFit, Classes, Fits, FrameFits, FramesFit, HeapFits, LocalsFit, Nothing, Typing, Verified, Wanted, has_type, have_types, is_of, result_awaited, result_of}
 use Rattle.kilim_type_sound.specs.Law.{Extends, with_class}
 use Rattle.kilim_type_sound.specs.Sound.{AsksFit, TopStands}
@@ -65,38 +65,7 @@ found p c at (k ∷ hs) h e = by (catches p c at k) refl (found p c at hs h) e
         record { among = inl same; covers_it = ap (λ z. covers z at) (sym same) ∙ and_left (covers k at) (catches_class p k.catch c) is; catches_it = ap (λ (z : Handler). catches_class p z.catch c) (sym same) ∙ and_right (covers k at) (catches_class p k.catch c) is }
     by false is go w = let r = go w in record { among = inr r.among; covers_it = r.covers_it; catches_it = r.catches_it }
 
--- ---- what catches has a table
-
-module _ (p : Program) (c : ClassId) (v : Value) where
-  by_entry : (a : Activation) (m : Method) (at : ℕ) → method_at p a.method ≡ Some m → (o : Option Handler) → handler_of p c at m.handlers ≡ o → (g : Activation) → caught_by a v o ≡ Some g → HasTable p
-  by_entry a m at there None is g e = absurd (cc)
-  by_entry a m at there (Some h) is g e = record { id = a.method; method = m; there = there; entry = h; among = (found p c at m.handlers h is).among }
-
-  in_table : (a : Activation) (at : ℕ) (o : Option Method) → method_at p a.method ≡ o → (g : Activation) → caught_in p c v a at o ≡ Some g → HasTable p
-  in_table a at None there g e = absurd (cc)
-  in_table a at (Some m) there g e = by_entry a m at there (handler_of p c at m.handlers) refl g e
-
-  behind_table : (a : Activation) (o : Option (ℕ × Instr)) (g : Activation) → caught_behind p c v a o ≡ Some g → HasTable p
-  behind_table a None g e = absurd (cc)
-  behind_table a (Some call) g e = in_table a call.0 (method_at p a.method) refl g e
-
-  or_table : (o : Option Activation) (rest un : List Activation) (f : Activation) (fs : List Activation) → ((g : Activation) → o ≡ Some g → HasTable p) → (un ≡ f ∷ fs → HasTable p) → or_below o rest un ≡ f ∷ fs → HasTable p
-  or_table None rest un f fs here later e = later e
-  or_table (Some g) rest un f fs here later e = here g refl
-
-  pub unwound_table : (frames : List Activation) (f : Activation) (fs : List Activation) → unwound p c v frames ≡ f ∷ fs → HasTable p
-  unwound_table [] f fs e = absurd (cc)
-  unwound_table (a ∷ rest) f fs e = or_table (caught_behind p c v a (call_in (method_at p a.method) a.place)) rest (unwound p c v rest) f fs (behind_table a (call_in (method_at p a.method) a.place)) (unwound_table rest f fs) e
-
-  pub thrown_table : (top : Activation) (below : List Activation) (f : Activation) (fs : List Activation) → thrown p c v top below ≡ f ∷ fs → HasTable p
-  thrown_table top below f fs e = or_table (caught_in p c v top top.place (method_at p top.method)) below (unwound p c v below) f fs (in_table top top.place (method_at p top.method) refl) (unwound_table below f fs) e
-
 -- ---- what verification says of handlers
-
-pub place_entry : (hs : List Handler) (n : ℕ) (h : Handler) → slice_get hs n ≡ Some h → IsEntry hs h
-place_entry [] n h e = absurd (cc)
-place_entry (x ∷ hs) zero h e = let same : x ≡ h = cc in inl same
-place_entry (x ∷ hs) (suc n) h e = inr (place_entry hs n h e)
 
 entry_place : (hs : List Handler) (h : Handler) → IsEntry hs h → (n : ℕ) × (slice_get hs n ≡ Some h)
 entry_place [] h e = absurd e
@@ -231,16 +200,16 @@ module _ (p : Program) (typing : Typing) (live : Wanted) (keeps : Keeps p) (veri
   facts : Facts p
   facts = facts_hold p keeps
 
-  -- the new object, where something catches it
+  -- the new object
   pub record Made (of : Classes) (h : Objects) (n : ℕ) : Type 0 where
     pub grows : Extends of (with_class of n (class_type c.0))
     pub class : with_class of n (class_type c.0) n ≡ Some (class_type c.0)
     pub throwable : is_throwable p c ≡ true
     pub heap : HeapFits p (with_class of n (class_type c.0)) (insert h n (new_object p c))
 
-  made : HasTable p → (index : List ℕ) → IsIndexName index → (why : EndCause) → raised_class p index why ≡ Some c → (of : Classes) (h : Objects) → HeapFits p of h → (n : ℕ) → of n ≡ None → Made of h n
-  made table index name why is of h heap n free =
-      let r = facts.raised table index name why c is in
+  made : (index : List ℕ) → IsIndexName index → (why : EndCause) → raised_class p index why ≡ Some c → (of : Classes) (h : Objects) → HeapFits p of h → (n : ℕ) → of n ≡ None → Made of h n
+  made index name why is of h heap n free =
+      let r = facts.raised index name why c is in
       record {
         grows = grown_by p typing live facts of n (class_type c.0) free;
         class = ap (λ (z : Bool). cond z (Some (class_type c.0)) (of n)) (eq-eqb n n refl);
@@ -270,9 +239,9 @@ module _ (p : Program) (typing : Typing) (live : Wanted) (keeps : Keeps p) (veri
 pub all_raises_fit : AllRaisesFit
 all_raises_fit p typing live keeps verified = record {
   raised = λ of top below h fits index name why c is n free f fs e. subst (λ (frames : List Activation). Fits p typing live (with_class of n (class_type c.0)) frames (insert h n (new_object p c))) e
-      (raised_fits p typing live keeps verified c of top below h fits n (made p typing live keeps verified c (thrown_table p c (Ref n) top below f fs e) index name why is of h fits.heap n free));
+      (raised_fits p typing live keeps verified c of top below h fits n (made p typing live keeps verified c index name why is of h fits.heap n free));
   asked = λ of id args frames h asks index name why c is n free f fs e. subst (λ (frames : List Activation). Fits p typing live (with_class of n (class_type c.0)) frames (insert h n (new_object p c))) e
-      (asked_fits p typing live keeps verified c of id args frames h asks n (made p typing live keeps verified c (unwound_table p c (Ref n) frames f fs e) index name why is of h asks.heap n free));
+      (asked_fits p typing live keeps verified c of id args frames h asks n (made p typing live keeps verified c index name why is of h asks.heap n free));
 }
 
 -- ---- the class of an index past the end

@@ -7,7 +7,7 @@ use Rattle.kilim_type_sound.proofs.OwnFields as owned
 use Rattle.kilim_type_sound.proofs.Selecting as selecting
 use Rattle.kilim_type_laws.proofs.members.Through as lines
 use Rattle.kilim_type_sound.proofs.Behind as places
-use Rattle.kilim_type_sound.proofs.Tables as tables
+use Rattle.kilim_type_sound.proofs.Raisable as raisable
 use Rattle.kilim_type_sound.proofs.Tables.{all_wants, live_wants}
 use Rattle.kilim_type_sound.proofs.TextClass as texts
 use Rattle.kilim_type_sound.proofs.Throwables as throwables
@@ -25,7 +25,7 @@ facts_hold p keeps = record {
   no_thrown = throwables.no_thrown p keeps;
   throwable = λ c there k e. throwables.throwable p keeps c there k e;
   caught = throwables.caught p keeps;
-  raised = λ table index is why c e. absurd (tables.no_table p keeps table);
+  raised = raisable.raised p keeps;
   order = record { itself = keeping.itself p keeps; through = lines.through p keeps };
   superclass = keeping.superclass p keeps;
   values = values.values p keeps;

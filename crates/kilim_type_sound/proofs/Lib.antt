@@ -23,6 +23,7 @@ pub mod Bodies
 pub mod BuiltInMembers
 pub mod TextClass
 pub mod Throwables
+pub mod Raisable
 pub mod Behind
 pub mod OwnFields
 pub mod Selecting

@@ -1,16 +1,10 @@
 -- Live slots are a table of wanted ones, and so are all slots.
-use Rattle.std.proofs.Common.{◌≡◌, ℕ, Bool, true, List, [], ◌∷◌, Some, refl}
+use Rattle.std.proofs.Common.{◌≡◌, ℕ, Bool, true, List, Some, refl}
 use Rattle.kilim_program.specs.declared.class.Handler.{Handler}
 use Rattle.kilim_program.specs.declared.class.Method.{Method}
 use Rattle.kilim_program.specs.declared.instr.Instr.{Instr}
 use Rattle.kilim_program.specs.Lengths.{fetched}
 use Rattle.kilim_type_spec.specs.Typed.{Catches, ReadsIt, GoesOn, IsLive}
-use Rattle.kilim_program.specs.Keeps.{Keeps}
-use Rattle.kilim_program.specs.Names.{is_empty}
-use Rattle.kilim_program.specs.Program.{Program}
-use Rattle.kilim_run_machine.specs.Raising.{IsEntry}
-use Rattle.kilim_type_laws.proofs.members.FromKeeps.{all_at}
-use Rattle.kilim_type_sound.specs.Facts.{HasTable}
 use Rattle.kilim_type_sound.specs.Fits.{WantsAt}
 
 -- the table of live slots is one
@@ -24,13 +18,3 @@ live_wants m live is at next i e = record {
 -- so is that of all slots
 pub all_wants : (handlers : List Handler) (at next : ℕ) (i : Instr) → WantsAt handlers (λ q k. true) at next i
 all_wants handlers at next i = record { read = λ k r. refl; flow = λ q k a l w. refl; caught = λ q k a l. refl }
-
--- ---- exception tables
-
--- no method has one
-pub no_table : (p : Program) → Keeps p → HasTable p → ⊥
-no_table p keeps table = none table.method.handlers (all_at (λ (m : Method). is_empty m.handlers) p.methods table.id.0 table.method keeps.handlers table.there) table.among
-  where
-    none : (hs : List Handler) → is_empty hs ≡ true → IsEntry hs table.entry → ⊥
-    none [] e among = among
-    none (h ∷ hs) e among = absurd (cc)

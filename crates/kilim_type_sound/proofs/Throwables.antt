@@ -25,7 +25,7 @@ use Rattle.kilim_type_laws.proofs.members.ValueClasses.{IsAtTop, UpIsFirst, all_
 use Rattle.kilim_type_sound.specs.Fits.{is_of}
 use Rattle.kilim_type_sound.proofs.TextClass.{object_name}
 
-abbrev throwable_name : List ℕ
+abbrev pub throwable_name : List ℕ
 throwable_name = codes "java/lang/Throwable"
 
 top_in : (form : Form) (a b : ℕ) → (c : Class) × (slice_get (built_in_classes_in form a b) 0 ≡ Some c) × (c.superclass ≡ None)
@@ -174,13 +174,12 @@ module _ (p : Program) (keeps : Keeps p) where
       by true is e again = (d, type_is p keeps throwable_name d refl is, or_left (eqb d.0 d.0) _ (eq-eqb d.0 d.0 refl))
       by false is e again = let r = again e in (r.0, r.1, or_later (eqb d.0 r.0.0) _ r.2)
 
-  pub caught : (k : ClassId) → list_any (is_named p throwable_name) (line_of p k) ≡ true → (c : ClassId) × (class_named p throwable_name ≡ Some c) × (fits_type p (class_type k.0) (class_type c.0) ≡ true)
-  unfolding fits_type
-  caught k e =
+  pub below_named : (k : ClassId) → list_any (is_named p throwable_name) (line_of p k) ≡ true → (c : ClassId) × (class_named p throwable_name ≡ Some c) × (list_any (λ (d : ClassId). eqb d.0 c.0) (line_of p k) ≡ true)
+  below_named k e =
       let r = named_there (line_of p k) e in
-      by (class_named p throwable_name) refl r.0 r.1 (or_left (list_any (λ (d : ClassId). eqb d.0 r.0.0) (line_of p k)) _ r.2)
+      by (class_named p throwable_name) refl r.0 r.1 r.2
     where
-      by : (o : Option ClassId) → class_named p throwable_name ≡ o → (c : ClassId) → named_class o ≡ Some (class_type c.0) → class_assignable p k c ≡ true → (c : ClassId) × (class_named p throwable_name ≡ Some c) × (class_assignable p k c ≡ true)
+      by : (o : Option ClassId) → class_named p throwable_name ≡ o → (c : ClassId) → named_class o ≡ Some (class_type c.0) → list_any (λ (d : ClassId). eqb d.0 c.0) (line_of p k) ≡ true → (c : ClassId) × (class_named p throwable_name ≡ Some c) × (list_any (λ (d : ClassId). eqb d.0 c.0) (line_of p k) ≡ true)
       by None there c e fits = absurd (cc)
       by (Some d) there c e fits = (c, there ∙ ap (λ (q : ℕ). Some (class_id q)) (number d c e), fits)
         where
@@ -194,3 +193,7 @@ module _ (p : Program) (keeps : Keeps p) where
               of_type : Option Ty → ℕ
               of_type None = 0
               of_type (Some ty) = of_base ty.base
+
+  pub caught : (k : ClassId) → list_any (is_named p throwable_name) (line_of p k) ≡ true → (c : ClassId) × (class_named p throwable_name ≡ Some c) × (fits_type p (class_type k.0) (class_type c.0) ≡ true)
+  unfolding fits_type
+  caught k e = let r = below_named k e in (r.0, r.1, or_left (list_any (λ (d : ClassId). eqb d.0 r.0.0) (line_of p k)) _ r.2)

@@ -20,8 +20,7 @@ use Rattle.kilim_type_spec.specs.Step.{superclass_at, special_fits, may_name}
 use Rattle.kilim_type_spec.specs.Typed.{has_code}
 use Rattle.kilim_type_sound.specs.Fits.{has_objects, int_fits, is_of}
 use Rattle.kilim_run_state.specs.declared.cause.EndCause.{EndCause}
-use Rattle.kilim_run_machine.specs.Raising.{IsEntry, array_index, is_throwable, other_index, raised_class, text_index}
-use Rattle.kilim_program.specs.declared.class.Handler.{Handler}
+use Rattle.kilim_run_machine.specs.Raising.{array_index, is_throwable, other_index, raised_class, text_index}
 use Rattle.kilim_program.specs.declared.class.Field.{Field}
 use Rattle.kilim_program.specs.declared.class.Method.{Method}
 use Rattle.kilim_program.specs.declared.names.FieldId.{FieldId}
@@ -69,14 +68,6 @@ pub record TextMethod (p : Program) (callee : Method) : Type 0 where
 abbrev pub IsIndexName : List ℕ → Type 0
 IsIndexName name = (name ≡ array_index) ⊎ (name ≡ text_index) ⊎ (name ≡ other_index)
 
--- some method has an exception table
-pub record HasTable (p : Program) : Type 0 where
-  pub id : MethodId
-  pub method : Method
-  pub there : method_at p id ≡ Some method
-  pub entry : Handler
-  pub among : IsEntry method.handlers entry
-
 pub record Facts (p : Program) : Type 0 where
   pub texts : (id : MethodId) (callee : Method) → method_at p id ≡ Some callee → is_text_method p callee ≡ true → callee.is_static ≡ false → is_constructor callee ≡ false → TextMethod p callee
   -- a static built-in method that isn't handed out is `Sys.take`
@@ -95,8 +86,8 @@ pub record Facts (p : Program) : Type 0 where
   pub no_thrown : (c : ClassId) → class_named p (codes "java/lang/Throwable") ≡ Some c → (name : List ℕ) → is_value_name name ≡ true → is_of p (named_type p name) (class_type c.0) ≡ false
   pub throwable : (c : ClassId) → class_named p (codes "java/lang/Throwable") ≡ Some c → (k : ClassId) → fits_type p (class_type k.0) (class_type c.0) ≡ true → is_throwable p k ≡ true
   pub caught : (k : ClassId) → is_throwable p k ≡ true → (c : ClassId) × (class_named p (codes "java/lang/Throwable") ≡ Some c) × (fits_type p (class_type k.0) (class_type c.0) ≡ true)
-  -- where there is an exception table, what is raised for a cause can be thrown, and there are objects of its class
-  pub raised : HasTable p → (index : List ℕ) → IsIndexName index → (why : EndCause) (c : ClassId) → raised_class p index why ≡ Some c → (is_throwable p c ≡ true) × (has_objects p c ≡ true)
+  -- what is raised for a cause can be thrown, and there are objects of its class
+  pub raised : (index : List ℕ) → IsIndexName index → (why : EndCause) (c : ClassId) → raised_class p index why ≡ Some c → (is_throwable p c ≡ true) × (has_objects p c ≡ true)
   pub order : Ordered p
   -- an object of a class is of its superclass
   pub superclass : (c up : ClassId) → superclass_at (class_at p c) ≡ Some up → fits_type p (class_type c.0) (class_type up.0) ≡ true

@@ -19,7 +19,6 @@ use Rattle.kilim_type_spec.specs.Step.{superclass_at, vtype}
 use Rattle.kilim_type_sound.specs.Facts.{IsCharAt, IsEquals, IsLength, TextKind}
 use Rattle.kilim_type_laws.proofs.members.ValueClasses.{found_name}
 use Rattle.kilim_type_sound.proofs.Grounds.{facts_hold}
-use Rattle.kilim_type_sound.proofs.Tables.{no_table}
 use Rattle.kilim_isolation_laws.specs.graph_rows.Holds.{object_sort}
 use Rattle.kilim_isolation_laws.specs.graph_rows.Facts.{ProgramKeeps}
 use Rattle.kilim_isolation_laws.proofs.sorts.Choosing.{chooses_well, class_sort, of_object, sizes}
@@ -28,6 +27,7 @@ use Rattle.kilim_isolation_laws.proofs.sorts.KindsOfClasses.{kinds_flow}
 use Rattle.kilim_isolation_laws.proofs.sorts.Lines.{object_is_private, step_up}
 use Rattle.kilim_isolation_laws.proofs.sorts.Sorted.{classes_flow}
 use Rattle.kilim_isolation_laws.proofs.sorts.TakeRow.{is_take}
+use Rattle.kilim_isolation_laws.proofs.sorts.Thrown.{thrown_is_private}
 
 module _ (p : Program) (keeps : Keeps p) where
   text_result : (named : Method) → TextKind named → (ty : Ty) × (named.result ≡ Some ty) × (vtype ty ≡ Int) × (kind_of p ty ≡ kind.Value)
@@ -59,5 +59,5 @@ module _ (p : Program) (keeps : Keeps p) where
     constants = facts.constants;
     above = above;
     constructors = facts.constructors;
-    thrown = λ table c throwable. absurd (no_table p keeps table);
+    thrown = thrown_is_private p keeps;
   }

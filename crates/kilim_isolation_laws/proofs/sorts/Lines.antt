@@ -160,7 +160,7 @@ module _ (p : Program) (keeps : Keeps p) where
 
   -- ---- `java/lang/Object`
 
-  first_is_object : is_object p (class_id (length own)) ≡ true
+  pub first_is_object : is_object p (class_id (length own)) ≡ true
   first_is_object =
       let top = object_top p.form (length own) methods in
       let there : slice_get p.classes (length own) ≡ Some top.class = ap (λ (cs : List Class). slice_get cs (length own)) keeps.built_in.classes ∙ (get_right own built (length own) 0 (omega arith) ∙ top.at) in
@@ -188,7 +188,7 @@ module _ (p : Program) (keeps : Keeps p) where
 
   -- ---- one step up
 
-  any_more : (test : ClassId → Bool) (m n : ℕ) (a : ClassId) → m ≤ n → list_any test (line_up_to p m a) ≡ true → list_any test (line_up_to p n a) ≡ true
+  pub any_more : (test : ClassId → Bool) (m n : ℕ) (a : ClassId) → m ≤ n → list_any test (line_up_to p m a) ≡ true → list_any test (line_up_to p n a) ≡ true
   any_more test zero n a less e = absurd (cc)
   any_more test (suc m) zero a less e = absurd (omega (arith, less))
   any_more test (suc m) (suc n) a less e = by (test a) (up p a) e (λ u later. any_more test m n u (omega (arith, less)) later)

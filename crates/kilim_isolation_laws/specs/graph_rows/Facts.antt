@@ -46,7 +46,6 @@ use Rattle.kilim_isolation_graph.specs.Entry.{quality}
 use Rattle.kilim_isolation_graph.specs.Graphs.{changed, node_of, added}
 use Rattle.kilim_isolation_rules.specs.Marks.{root_node}
 use Rattle.kilim_run_machine.specs.Raising.{is_throwable}
-use Rattle.kilim_type_sound.specs.Facts.{HasTable}
 use Rattle.kilim_isolation_laws.specs.graph_rows.Holds.{Holds, Waiting, Stands, KindsFlow, MayHold, Stuff, Tree, IsOf, ObjectFits, AreSlots, named_by, sort, object_sort, field_sort, type_sort, trees}
 use Rattle.kilim_isolation_laws.specs.graph_rows.Outcome.{Left, EffectHolds}
 
@@ -96,8 +95,8 @@ pub record ProgramKeeps (p : Program) : Type 0 where
       ((class_kind p up ≡ kind.Private) × ((id : MethodId) (named : Method) → method_at p id ≡ Some named → named.owner.0 ≡ up.0 → named.built_in ≡ true))
   -- a built-in constructor takes and gives nothing
   pub constructors : (id : MethodId) (named : Method) → method_at p id ≡ Some named → named.built_in ≡ true → is_constructor named ≡ true → (named.params ≡ []) × (named.result ≡ None)
-  -- where there is an exception table, what can be thrown is private
-  pub thrown : HasTable p → (c : ClassId) → is_throwable p c ≡ true → kind_of p (class_type c.0) ≡ kind.Private
+  -- what can be thrown is private
+  pub thrown : (c : ClassId) → is_throwable p c ≡ true → kind_of p (class_type c.0) ≡ kind.Private
 
 -- ---- the classes of what lies on the stack
 
