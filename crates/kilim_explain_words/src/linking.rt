@@ -88,6 +88,10 @@ pub fn link_advice(kind: &[u8], name: &[u8]) -> Advice {
             "this abstract method is left in a class that isn't abstract, or is private or static",
             "write the method, or make the class abstract",
         ),
+        b"handler" => advise(
+            "an exception table is none that a compiler makes",
+            "compile the source anew",
+        ),
         _ => bare(kind),
     }
 }

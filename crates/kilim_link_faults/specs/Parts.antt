@@ -8,7 +8,7 @@ use Rattle.kilim_program.specs.declared.names.ClassId.{ClassId}
 use Rattle.kilim_program.specs.declared.ty.Ty.{Ty}
 use Rattle.kilim_program.specs.Names.{◌>>=◌}
 use Rattle.kilim_link_spec.specs.declared.fault.Problem.{Problem}
-use Rattle.kilim_link_spec.specs.Faults.{may_hold, faults_in, left_out, both_kinds, field_kinds, override_differs, code_broken, descriptor_broken, super_kind, name_broken, abstract_left}
+use Rattle.kilim_link_spec.specs.Faults.{may_hold, faults_in, left_out, both_kinds, field_kinds, override_differs, code_broken, descriptor_broken, super_kind, name_broken, abstract_left, handler_faults}
 use Rattle.kilim_link_spec.specs.declared.fault.LinkFault.{LinkFault}
 use Rattle.kilim_link_spec.specs.Linked.{numbered}
 use Rattle.kilim_link_spec.specs.Types.{field_text, type_in}
@@ -24,7 +24,7 @@ holds_badly w file c f = not (may_hold w c (field_text (member_descriptor file f
 
 -- the last kinds of problems
 abbrev pub last_kinds : World → ClassFile → ClassId → List Problem
-last_kinds w file c = super_kind w file c ++ (name_broken w file c ++ abstract_left w file c)
+last_kinds w file c = super_kind w file c ++ (name_broken w file c ++ (abstract_left w file c ++ handler_faults w file c))
 
 -- and those before them
 abbrev pub code_kinds : World → ClassFile → ClassId → List Problem

@@ -13,7 +13,9 @@ use crate::fields::field_kinds;
 use crate::members::member_missing;
 use crate::twice::declared_twice;
 use kilim_class_file::ClassFile;
-use kilim_link_file_faults::{code_broken, descriptor_broken, left_out_problem, name_broken};
+use kilim_link_file_faults::{
+    code_broken, descriptor_broken, handler_broken, left_out_problem, name_broken,
+};
 use kilim_link_mentions::{class_names, members_named, mentions_of};
 use kilim_link_override_faults::{Ancestry, abstract_left, override_differs};
 use kilim_link_spec::{LinkFault, Mention, Problem};
@@ -44,7 +46,12 @@ fn last_kinds(
         Ok(None) => {}
         Err(fault) => return Err(fault),
     }
-    abstract_left(alloc, world, ancestry, file, class)
+    match abstract_left(alloc, world, ancestry, file, class) {
+        Ok(Some(problem)) => return Ok(Some(problem)),
+        Ok(None) => {}
+        Err(fault) => return Err(fault),
+    }
+    handler_broken(alloc, file)
 }
 
 #[tactic(auto, using(crate::proofs::Firsts::here, crate::proofs::Firsts::later))]

@@ -30,7 +30,7 @@ use Rattle.kilim_link_spec.specs.Code.{code_of, decoded}
 use Rattle.kilim_link_spec.specs.Faults.{abstract_left, is_left_here}
 use Rattle.kilim_link_spec.specs.Frames.{frames_in}
 use Rattle.kilim_link_spec.specs.Laws.{LinkedInParts, NoProblem, NoneHasAProblem, NoneOfEachKind}
-use Rattle.kilim_link_spec.specs.Linked.{body_in, body_with, code_attribute, code_in, first_of, linked_method, no_body, program_with}
+use Rattle.kilim_link_spec.specs.Linked.{body_in, body_with, code_attribute, code_in, first_of, handlers_in, linked_method, no_body, program_with}
 use Rattle.kilim_link_spec.specs.declared.named.Body.{Body}
 use Rattle.kilim_link_spec.specs.World.{World, acc_abstract, acc_native, declared_method, declared_methods, has_flag, methods_at, view_of_file, world_of}
 use Rattle.kilim_link_spec.specs.declared.view.DeclaredMethod.{DeclaredMethod}
@@ -86,9 +86,10 @@ body_by w file c member None body is_abstract made some e =
     ap (λ (b : Body). same_flag (b.code_length == 0) is_abstract) (sym (same_Some no_body body made)) ∙ abstract_alone is_abstract e
 body_by w file c member (Some code) body is_abstract made some e =
     let instrs = bound (code_of w file.constant_pool (decoded code.code)) _ body made in
-    let frames = bound (frames_in w file c (declared_method file member) code) _ body instrs.is in
+    let handlers = bound (handlers_in w file.constant_pool code.exception_table) _ body instrs.is in
+    let frames = bound (frames_in w file c (declared_method file member) code) _ body handlers.is in
     let size = some code refl in
-    ap (λ (b : Body). same_flag (b.code_length == 0) is_abstract) (sym (same_Some (body_with code instrs.of frames.of) body frames.is))
+    ap (λ (b : Body). same_flag (b.code_length == 0) is_abstract) (sym (same_Some (body_with code instrs.of handlers.of frames.of) body frames.is))
     ∙ (ap (λ (b : Bool). same_flag b is_abstract) (ne_eqb (length code.code) 0 (λ none. omega (arith, none, size)))
     ∙ not_from_false is_abstract (concrete_with is_abstract e))
 

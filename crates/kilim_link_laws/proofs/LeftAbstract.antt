@@ -1,5 +1,5 @@
 -- A class that isn't abstract neither declares nor inherits an abstract method.
-use Rattle.std.proofs.Common.{◌≡◌, ℕ, zero, suc, ◌+◌, Bool, true, false, ◌&&◌, ◌||◌, not, nat_lt, List, [], ◌∷◌, ◌++◌, map, length, slice_get, Option, Some, None, option_map, filter, refl, sym, ap, ◌∙◌, ltb-true, arith}
+use Rattle.std.proofs.Common.{◌≡◌, ℕ, zero, suc, ◌+◌, Bool, true, false, ◌&&◌, ◌||◌, not, nat_lt, List, [], ◌∷◌, ◌++◌, map, length, slice_get, Option, Some, None, filter, refl, sym, ap, ◌∙◌, ltb-true, arith}
 use Rattle.std.specs.List.{flat_map, list_all, list_any}
 use Rattle.std.proofs.lemmas.Bool.{and_left, and_parts, not-true, not_from_false, or_left, or_right}
 use Rattle.std.proofs.lemmas.List.{length-append}

@@ -1,8 +1,7 @@
 -- An overriding method agrees with what it overrides.
-use Rattle.std.proofs.Common.{◌≡◌, ℕ, ◌+◌, Bool, true, false, ◌&&◌, not, nat_lt, List, [], ◌∷◌, map, length, slice_get, Option, Some, None, option_map, filter, bytes_eq, codes, refl, sym, ap, ◌∙◌, ltb-true, arith}
+use Rattle.std.proofs.Common.{◌≡◌, ℕ, ◌+◌, Bool, true, false, ◌&&◌, not, nat_lt, List, [], ◌∷◌, map, length, slice_get, Option, Some, None, filter, bytes_eq, codes, refl, sym, ap, ◌∙◌, ltb-true, arith}
 use Rattle.std.specs.List.{flat_map, list_all}
 use Rattle.std.proofs.lemmas.Bool.{and_from, and_parts, both_ways, not-false, not-true, not_from_false, or_left, or_right}
-use Rattle.std.proofs.lemmas.Option.{same_Some}
 use Rattle.kilim_lemmas.proofs.Lists.{map_none, get_some}
 use Rattle.kilim_lemmas.proofs.Texts.{same_text}
 use Rattle.kilim_lemmas.proofs.Truth.{rest_is_false}

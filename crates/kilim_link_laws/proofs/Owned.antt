@@ -1,10 +1,10 @@
 -- A class's members are those that name it as owner, in their order.
-use Rattle.std.proofs.Common.{◌≡◌, ℕ, zero, suc, ◌+◌, ◌<◌, ◌≤◌, Bool, true, ◌&&◌, List, [], ◌∷◌, ◌++◌, map, length, slice_get, Option, Some, bytes_eq, refl, sym, ap, subst, ◌∙◌, ⊎_elim, ne_eqb, ◌==◌, arith}
+use Rattle.std.proofs.Common.{◌≡◌, ℕ, suc, ◌+◌, ◌<◌, ◌≤◌, Bool, true, ◌&&◌, List, [], ◌∷◌, ◌++◌, map, length, slice_get, Option, Some, bytes_eq, refl, sym, ap, subst, ◌∙◌, ⊎_elim, ne_eqb, ◌==◌, arith}
 use Rattle.std.specs.List.{list_all, range_with_len}
 use Rattle.kilim_program.specs.Names.{is_empty}
-use Rattle.std.proofs.lemmas.Bool.{and_from, and_parts, cond-false, cases_order}
+use Rattle.std.proofs.lemmas.Bool.{and_from, cond-false, cases_order}
 use Rattle.std.proofs.lemmas.List.{append-nil, length-map}
-use Rattle.std.proofs.lemmas.Option.{same_Some, none-some, slice_get_within}
+use Rattle.std.proofs.lemmas.Option.{same_Some, slice_get_within}
 use Rattle.kilim_lemmas.proofs.Texts.{text_is, same_text}
 use Rattle.kilim_class_file.specs.declared.class_file.ClassFile.{ClassFile}
 use Rattle.kilim_class_file.specs.declared.class_file.MemberInfo.{MemberInfo}

@@ -27,6 +27,8 @@ mod InstrsThere
 mod FramesThere
 mod CodeThere
 mod ProperFrames
+mod NoHandlers
+mod TablesStand
 mod ProgramThere
 mod TestedTypes
 mod TestedInstrs

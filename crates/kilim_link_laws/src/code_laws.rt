@@ -1,6 +1,6 @@
 //! Facts of methods, code and frames of programs that are linked: laws about definitions of the crates below.
 
-ghost use Rattle.kilim_link_laws.specs.code_laws.Facts.{CodeIsWhole, ConstantsFit, FramesAreProper, FramesIncrease, IdsArePlaces, MethodsAreSound, NoFaultLinks, NoTaskArrays, NoneHasHandlers, ReceiversAreCuttable};
+ghost use Rattle.kilim_link_laws.specs.code_laws.Facts.{CodeIsWhole, ConstantsFit, FramesAreProper, FramesIncrease, IdsArePlaces, MethodsAreSound, NoFaultLinks, NoTaskArrays, NoneHasHandlers, ReceiversAreCuttable, TablesStand};
 
 use kilim_class_code::opcodes::{lengths, one_spelling};
 use kilim_class_code::targets_are_places;
@@ -25,6 +25,17 @@ pub fn none_has_handlers()
     ensures { NoneHasHandlers }
 {
     linked_in_parts();
+    none_has_a_problem();
+    none_of_each_kind();
+}
+
+/// A law, and no work: each entry of an exception table is one of instructions of its method.
+pub fn tables_stand()
+    ensures { TablesStand }
+{
+    linked_in_parts();
+    none_has_a_problem();
+    none_of_each_kind();
 }
 
 /// A law, and no work: a method has a qualifier for each parameter and few argument slots, and no constructor pauses.

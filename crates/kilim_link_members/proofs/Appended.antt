@@ -1,7 +1,7 @@
 -- Making the elements of one list, and then of others behind it.
 use Rattle.std.proofs.Common.{◌≡◌, Bool, true, false, ℕ, ◌+◌, ◌<◌, ◌≤◌, zero, suc, List, [], ◌∷◌, ◌++◌, length, drop, get_or, map, Option, Some, None, refl, sym, ap, ◌∙◌, append_assoc, arith, subst}
 use Rattle.std.specs.List.{flat_map}
-use Rattle.std.proofs.lemmas.List.{append-nil, at_drop_all}
+use Rattle.std.proofs.lemmas.List.{append-nil, at_drop_all, get_or_default}
 use Rattle.std.proofs.lemmas.Option.{same_Some}
 use Rattle.kilim_class_file.specs.declared.class_file.ClassFile.{ClassFile}
 use Rattle.kilim_program.specs.BuiltIn.{class_id}
@@ -81,6 +81,17 @@ module _ {A B : Type 0} (make : A → Option B) (items xs : List A) (i : ℕ) (x
 
   pub not_there : None ≡ make x → None ≡ total
   not_there none = ap (λ o. behind made (with_first o (each_of make (drop (i + 1) xs)))) none ∙ here_at
+
+-- the same where the element is copied
+module _ {A B : Type 0} (make : A → Option B) (items xs : List A) (i : ℕ) (d : A) (made : List B) {total : Option (List B)} (same : items ≡ xs) (lt : i < length items) (so_far : behind made (each_of make (drop i xs)) ≡ total) where
+  abbrev copied : A
+  copied = get_or items i d
+
+  pub one_more_at : (y : B) (new : List B) → Some y ≡ make (get_or items i d) → new ≡ made ++ y ∷ [] → behind new (each_of make (drop (i + 1) xs)) ≡ total
+  one_more_at y new there step = one_more make items xs i copied made same lt (get_or_default items i d copied lt) so_far y new there step
+
+  pub not_there_at : None ≡ make (get_or items i d) → None ≡ total
+  not_there_at none = not_there make items xs i copied made same lt (get_or_default items i d copied lt) so_far none
 
 -- ---- a loop over files, which makes something of each with its number
 

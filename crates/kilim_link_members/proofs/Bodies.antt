@@ -4,6 +4,7 @@ use Rattle.std.specs.Prelude.{IfOk}
 use Rattle.kilim_class_attributes.specs.declared.attribute.Code.{Code}
 use Rattle.kilim_class_file.specs.declared.class_file.ClassFile.{ClassFile}
 use Rattle.kilim_class_file.specs.declared.class_file.MemberInfo.{MemberInfo}
+use Rattle.kilim_program.specs.declared.class.Handler.{Handler}
 use Rattle.kilim_program.specs.declared.class.Method.{Method}
 use Rattle.kilim_program.specs.declared.instr.Instr.{Instr}
 use Rattle.kilim_program.specs.declared.names.ClassId.{ClassId}
@@ -13,7 +14,7 @@ use Rattle.kilim_program.specs.Names.{◌>>=◌}
 use Rattle.kilim_class_descriptors.specs.declared.types.MethodText.{MethodText}
 use Rattle.kilim_link_spec.specs.Code.{code_of, decoded}
 use Rattle.kilim_link_spec.specs.Frames.{frames_in}
-use Rattle.kilim_link_spec.specs.Linked.{body_in, body_with, code_attribute, linked_method, method_with}
+use Rattle.kilim_link_spec.specs.Linked.{body_in, body_with, code_attribute, handlers_in, linked_method, method_with}
 use Rattle.kilim_link_spec.specs.Types.{method_text, result_in, types_in}
 use Rattle.kilim_link_spec.specs.World.{World, declared_method}
 use Rattle.kilim_link_spec.specs.declared.view.DeclaredMethod.{DeclaredMethod}
@@ -21,39 +22,64 @@ use Rattle.kilim_link_spec.specs.declared.named.Body.{Body}
 
 -- ---- of its code
 
-module _ (w : World) (file : ClassFile) (c : ClassId) (method : MemberInfo) (declared : DeclaredMethod) (declared_is : declared ≡ declared_method file method) (code : Code) (bytes : List ℕ) (bytes_are : bytes ≡ code.code) where
-  abbrev Instrs : Type 0
-  Instrs = Option (List (ℕ × Instr))
+module _ (w : World) (file : ClassFile) (c : ClassId) (method : MemberInfo) (declared : DeclaredMethod) (declared_is : declared ≡ declared_method file method) (code : Code) where
+  abbrev Parts : Type 0
+  Parts = Option (List (ℕ × Instr) × List Handler)
 
   abbrev Frames : Type 0
   Frames = Option (List (ℕ × Frame))
 
-  abbrev body : Instrs → Frames → Option Body
-  body instrs frames = do
-    is ← instrs
+  abbrev body : Parts → Frames → Option Body
+  body parts frames = do
+    x ← parts
     fs ← frames
-    Some (body_with code is fs)
+    Some (body_with code x.0 x.1 fs)
 
-  abbrev counted : ℕ → List (ℕ × Instr) → List (ℕ × Frame) → Body
-  counted count instrs frames = record { max_stack = code.max_stack; max_locals = code.max_locals; code_length = count; code = instrs; frames = frames }
+  abbrev counted : ℕ → List (ℕ × Instr) → List Handler → List (ℕ × Frame) → Body
+  counted count instrs handlers frames =
+      record { max_stack = code.max_stack; max_locals = code.max_locals; code_length = count; code = instrs; frames = frames; handlers = handlers }
 
-  whole : (instrs : Instrs) → instrs ≡ code_of w file.constant_pool (decoded bytes) → body instrs (frames_in w file c declared code) ≡ body_in w file c method (Some code)
-  whole instrs are =
-      ap (λ (is : Instrs). body is (frames_in w file c declared code)) (are ∙ ap (λ (bs : List ℕ). code_of w file.constant_pool (decoded bs)) bytes_are)
-      ∙ ap (λ (m : DeclaredMethod). body (code_of w file.constant_pool (decoded code.code)) (frames_in w file c m code)) declared_is
+  abbrev both : Option (List (ℕ × Instr)) → Option (List Handler) → Parts
+  both instrs handlers = do
+    is ← instrs
+    hs ← handlers
+    Some (is, hs)
 
-  pub no_instrs : (instrs : Instrs) → instrs ≡ code_of w file.constant_pool (decoded bytes) → instrs ≡ None → None ≡ body_in w file c method (Some code)
-  no_instrs instrs are none = ap (λ (is : Instrs). body is (frames_in w file c declared code)) (sym none) ∙ whole instrs are
+  abbrev apart : Option (List (ℕ × Instr)) → Option (List Handler) → Frames → Option Body
+  apart instrs handlers frames = do
+    is ← instrs
+    hs ← handlers
+    fs ← frames
+    Some (body_with code is hs fs)
 
-  module _ (found : Instrs) (are : found ≡ code_of w file.constant_pool (decoded bytes)) (instrs : List (ℕ × Instr)) (there : found ≡ Some instrs) where
-    with_frames : body (Some instrs) (frames_in w file c declared code) ≡ body_in w file c method (Some code)
-    with_frames = ap (λ (is : Instrs). body is (frames_in w file c declared code)) (sym there) ∙ whole found are
+  one_by_one : (instrs : Option (List (ℕ × Instr))) (handlers : Option (List Handler)) (frames : Frames) → body (both instrs handlers) frames ≡ apart instrs handlers frames
+  one_by_one None handlers frames = refl
+  one_by_one (Some is) None frames = refl
+  one_by_one (Some is) (Some hs) frames = refl
+
+  abbrev Are : Parts → Type 0
+  Are parts = parts ≡ both (code_of w file.constant_pool (decoded code.code)) (handlers_in w file.constant_pool code.exception_table)
+
+  whole : (parts : Parts) → Are parts → body parts (frames_in w file c declared code) ≡ body_in w file c method (Some code)
+  whole parts are =
+      let instrs = code_of w file.constant_pool (decoded code.code) in
+      let handlers = handlers_in w file.constant_pool code.exception_table in
+      ap (λ (x : Parts). body x (frames_in w file c declared code)) are
+      ∙ (one_by_one instrs handlers (frames_in w file c declared code)
+      ∙ ap (λ (m : DeclaredMethod). apart instrs handlers (frames_in w file c m code)) declared_is)
+
+  pub no_parts : (parts : Parts) → Are parts → parts ≡ None → None ≡ body_in w file c method (Some code)
+  no_parts parts are none = ap (λ (x : Parts). body x (frames_in w file c declared code)) (sym none) ∙ whole parts are
+
+  module _ (found : Parts) (are : Are found) (instrs : List (ℕ × Instr)) (handlers : List Handler) (there : found ≡ Some (instrs, handlers)) where
+    with_frames : body (Some (instrs, handlers)) (frames_in w file c declared code) ≡ body_in w file c method (Some code)
+    with_frames = ap (λ (x : Parts). body x (frames_in w file c declared code)) (sym there) ∙ whole found are
 
     pub no_frames : None ≡ frames_in w file c declared code → None ≡ body_in w file c method (Some code)
-    no_frames none = ap (body (Some instrs)) none ∙ with_frames
+    no_frames none = ap (body (Some (instrs, handlers))) none ∙ with_frames
 
-    pub has_body : (count : ℕ) (frames : List (ℕ × Frame)) → count ≡ length code.code → Some frames ≡ frames_in w file c declared code → Some (counted count instrs frames) ≡ body_in w file c method (Some code)
-    has_body count frames count_is fs = ap (λ (n : ℕ). Some (counted n instrs frames)) count_is ∙ (ap (body (Some instrs)) fs ∙ with_frames)
+    pub has_body : (count : ℕ) (frames : List (ℕ × Frame)) → count ≡ length code.code → Some frames ≡ frames_in w file c declared code → Some (counted count instrs handlers frames) ≡ body_in w file c method (Some code)
+    has_body count frames count_is fs = ap (λ (n : ℕ). Some (counted n instrs handlers frames)) count_is ∙ (ap (body (Some (instrs, handlers))) fs ∙ with_frames)
 
 -- ---- of its types and its body
 

@@ -4,8 +4,10 @@ ghost use Rattle.std.specs.Prelude.{◌≡◌, Some, IfOk, length, option_copied
 ghost use Rattle.kilim_link_spec.specs.World.{declared_method};
 ghost use Rattle.kilim_link_spec.specs.Code.{decoded, code_of};
 ghost use Rattle.kilim_link_spec.specs.Linked.{no_body, body_in};
+ghost use Rattle.kilim_link_members.specs.Parts.{parts_in};
 
 use crate::frames::frames_in;
+use crate::tables::handlers_in;
 use kilim_class_attributes::Code;
 use kilim_class_file::{ClassFile, MemberInfo};
 use kilim_class_pool::Pool;
@@ -13,7 +15,7 @@ use kilim_link_code::code_of;
 use kilim_link_mentions::decoded;
 use kilim_link_spec::{Body, DeclaredMethod};
 use kilim_link_world::World;
-use kilim_program::{ClassId, Instr};
+use kilim_program::{ClassId, Handler, Instr};
 use kilim_units::{NoMemory, Seq, no_room};
 use std::alloc::Global;
 
@@ -26,6 +28,7 @@ fn no_body(alloc: Global) -> Body
         code_length: 0,
         code: Seq::new(alloc),
         frames: Seq::new(alloc),
+        handlers: Seq::new(alloc),
     }
 }
 
@@ -56,6 +59,34 @@ fn length_of(code: &Code) -> Result<u32, NoMemory>
     }
 }
 
+// The instructions and the exception table of code, where it has no fault and all that they name is there.
+fn parts_in(
+    alloc: Global,
+    world: &World,
+    pool: &Pool,
+    code: &Code,
+) -> Result<Option<(Seq<(u32, Instr)>, Seq<Handler>)>, NoMemory>
+    ensures { IfOk result (λ parts. parts ≡ parts_in world.now pool.now code.now) }
+{
+    let Ok(instrs) = instrs_in(alloc, world, pool, code.code.as_slice()) else {
+        return Err(NoMemory);
+    };
+    let Some(instrs) = instrs else {
+        return Ok(None);
+    };
+    match handlers_in(alloc, world, pool, code.exception_table.as_slice()) {
+        Ok(Some(handlers)) => Ok(Some((instrs, handlers))),
+        Ok(None) => {
+            drop(instrs);
+            Ok(None)
+        }
+        Err(fault) => {
+            drop(instrs);
+            Err(fault)
+        }
+    }
+}
+
 // Of a method with code.
 fn body_of(
     alloc: Global,
@@ -72,10 +103,10 @@ fn body_of(
     let Ok(code_length) = length_of(code) else {
         return Err(NoMemory);
     };
-    let Ok(instrs) = instrs_in(alloc, world, &file.constant_pool, code.code.as_slice()) else {
+    let Ok(parts) = parts_in(alloc, world, &file.constant_pool, code) else {
         return Err(NoMemory);
     };
-    let Some(instrs) = instrs else {
+    let Some((instrs, handlers)) = parts else {
         return Ok(None);
     };
     match frames_in(alloc, world, file, class, declared, code) {
@@ -85,13 +116,16 @@ fn body_of(
             code_length,
             code: instrs,
             frames,
+            handlers,
         })),
         Ok(None) => {
             drop(instrs);
+            drop(handlers);
             Ok(None)
         }
         Err(fault) => {
             drop(instrs);
+            drop(handlers);
             Err(fault)
         }
     }

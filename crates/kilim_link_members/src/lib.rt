@@ -7,6 +7,7 @@ mod fields;
 mod files;
 pub mod frames;
 mod methods;
+mod tables;
 mod types;
 
 pub use classes::linked_class;

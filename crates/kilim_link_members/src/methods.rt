@@ -75,7 +75,7 @@ fn method_with(
             code_length: body.code_length,
             code: body.code,
             frames: body.frames,
-            handlers: Seq::new(alloc),
+            handlers: body.handlers,
         })),
         Err(fault) => {
             drop(params);

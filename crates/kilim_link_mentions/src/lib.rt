@@ -13,8 +13,9 @@ mod members;
 mod mentions;
 mod names;
 mod operands;
+mod tables;
 
-pub use code::{code_attribute, decoded, index_in};
+pub use code::{code_attribute, decoded, index_in, instrs_of};
 pub use descriptors::{field_text, method_text, named_by};
 pub use members::members_named;
 pub use mentions::mentions_of;

@@ -13,6 +13,7 @@ use crate::code::{code_attribute, index_in, instrs_of};
 use crate::descriptors::named_by;
 use crate::frames::push_frames;
 use crate::operands::operand_of;
+use crate::tables::push_rows;
 use kilim_class_code::opcodes::RawInstr;
 use kilim_class_file::{ClassFile, MemberInfo};
 use kilim_class_pool::Pool;
@@ -168,7 +169,7 @@ fn this_slots(method: &MemberInfo) -> u8
     }
 }
 
-#[tactic(auto, using(crate::proofs::Joined::three))]
+#[tactic(auto, using(crate::proofs::Joined::four))]
 fn push_method(
     alloc: Global,
     into: &mut Seq<Mention>,
@@ -186,7 +187,11 @@ fn push_method(
     let Ok(()) = push_code_of(alloc, into, &file.constant_pool, method) else {
         return Err(NoMemory);
     };
-    push_frames(alloc, into, &file.constant_pool, code_attribute(method))
+    let code = code_attribute(method);
+    let Ok(()) = push_rows(alloc, into, &file.constant_pool, code) else {
+        return Err(NoMemory);
+    };
+    push_frames(alloc, into, &file.constant_pool, code)
 }
 
 fn push_methods(

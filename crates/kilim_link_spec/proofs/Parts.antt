@@ -67,6 +67,7 @@ none_of_each_kind w file c e =
     let r10 = rest_none _ _ r9 in
     let r11 = rest_none _ _ r10 in
     let r12 = rest_none _ _ r11 in
+    let r13 = rest_none _ _ r12 in
     record {
       not_twice = front_none _ _ e;
       none_missing = front_none _ _ r2;
@@ -80,7 +81,8 @@ none_of_each_kind w file c e =
       descriptors_are_whole = front_none _ _ r10;
       super_fits = front_none _ _ r11;
       name_is_whole = front_none _ _ r12;
-      none_abstract = rest_none _ _ r12;
+      none_abstract = front_none _ _ r13;
+      tables_stand = rest_none _ _ r13;
     }
 
 map_none : {A B : Type 0} → (f : A → B) (xs : List A) → map f xs ≡ [] → xs ≡ []

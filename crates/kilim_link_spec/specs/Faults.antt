@@ -1,9 +1,11 @@
 -- What keeps class files from being a program (own profile), a definition for each kind: the problems of that kind in a
 -- class, in the order of the file's bytes.
-use Rattle.std.specs.Prelude.{ℕ, ◌+◌, Bool, true, false, ◌&&◌, ◌||◌, not, ◌==◌, nat_lt, nat_le, if◌then◌else◌, List, [], ◌∷◌, ◌++◌, map, filter, length, take, Option, Some, None, is_none, is_some, Result, Ok, Err, codes}
+use Rattle.std.specs.Prelude.{ℕ, ◌+◌, Bool, true, false, ◌&&◌, ◌||◌, not, suc, ◌==◌, nat_lt, nat_le, if◌then◌else◌, List, [], ◌∷◌, ◌++◌, map, filter, length, take, Option, Some, None, is_none, is_some, Result, Ok, Err, codes}
 use Rattle.std.specs.List.{list_all, list_any, flat_map, filter_map, slice_split}
 use Rattle.std.specs.Str.{bytes_eq}
 use Rattle.kilim_units.specs.Characters.{full_stop, slash, semicolon, left_bracket}
+use Rattle.kilim_class_attributes.specs.declared.attribute.Code.{Code}
+use Rattle.kilim_class_attributes.specs.declared.attribute.ExceptionHandler.{ExceptionHandler}
 use Rattle.kilim_class_code.specs.declared.fault.CodeFault.{CodeFault}
 use Rattle.kilim_class_code.specs.declared.fault.CodeFault.TheVariants as code
 use Rattle.kilim_class_code.specs.Code.{Placed}
@@ -27,12 +29,12 @@ use Rattle.kilim_link_spec.specs.declared.fault.LinkFault.{LinkFault}
 use Rattle.kilim_link_spec.specs.declared.fault.LinkFault.TheVariants as fault
 use Rattle.kilim_link_spec.specs.declared.fault.Problem.{Problem}
 use Rattle.kilim_link_spec.specs.declared.fault.Problem.TheVariants as problem
-use Rattle.kilim_link_spec.specs.World.{World, ClassView, DeclaredMethod, world_of, own_name, super_name, member_name, member_descriptor, has_flag, acc_abstract, class_of, view_at, declared_methods, is_method, find_method, find_field}
+use Rattle.kilim_link_spec.specs.World.{World, ClassView, DeclaredMethod, world_of, own_name, super_name, member_name, member_descriptor, class_text, has_flag, acc_abstract, class_of, view_at, declared_methods, is_method, find_method, find_field}
 use Rattle.kilim_link_spec.specs.Types.{Named, AClass, AnArray, Malformed, named_by, field_text, method_text, type_in}
 use Rattle.kilim_link_spec.specs.Qualified.{Qualified, qualified, is_constructor_name, has_fiber}
 use Rattle.kilim_link_spec.specs.Code.{MemberRef, index_in, operand_at}
 use Rattle.kilim_link_spec.specs.Linked.{code_attribute, first_of, numbered}
-use Rattle.kilim_link_spec.specs.Mentions.{Mention, OfClass, OfElement, OfField, OfMethod, OfFloat, Member, Field, Method, mentions_of, members_named, class_names}
+use Rattle.kilim_link_spec.specs.Mentions.{Mention, OfClass, OfElement, OfField, OfMethod, OfFloat, Member, Field, Method, instrs_of, mentions_of, members_named, class_names}
 pub use Rattle.kilim_link_spec.specs.LeftOut.{is_fiber, decoded_in, left_out_op, left_out_ops, is_float_base, is_float_mention, has_float, has_initializer, has_its_constant, has_static_field, has_method_flag, has_interface, has_pausable_constructor, has_row, has_handlers, is_task_name, is_task_base, has_task_array, has_fiber_name, differs_in, has_other_parameters, if_left}
 unfoldable pub use Rattle.kilim_link_spec.specs.LeftOut.{left_out_parts}
 
@@ -309,6 +311,49 @@ abstract_left w file c =
     let is_abstract = has_flag acc_abstract file.access_flags in
     map (λ m. problem.AbstractLeft (declared_of m)) (filter (is_left_here is_abstract) (declared_methods w c) ++ left_inherited w c is_abstract)
 
+-- ---- exception tables
+
+-- an instruction begins at that place
+abbrev pub begins_at : List Placed → ℕ → Bool
+begins_at instrs at = list_any (λ p. p.0 == at) instrs
+
+-- The range of an entry isn't empty; it begins at an instruction, and ends at one or with the code. Its handler is an instruction
+-- (JVMS 4.7.3, 4.9.1).
+abbrev pub row_stands : Code → List Placed → ExceptionHandler → Bool
+row_stands code instrs row =
+    begins_at instrs row.start_pc
+    && ((begins_at instrs row.end_pc || row.end_pc == length code.code)
+    && (nat_lt row.start_pc row.end_pc && begins_at instrs row.handler_pc))
+
+-- the name begins as that of an array does
+abbrev pub begins_as_array : List ℕ → Bool
+begins_as_array [] = false
+begins_as_array (u ∷ us) = u == left_bracket
+
+-- what an entry may not be: one that doesn't stand, or that names an array
+abbrev pub is_bad_row : List Entry → Code → List Placed → ExceptionHandler → Bool
+is_bad_row pool code instrs row = not (row_stands code instrs row) || begins_as_array (class_text pool row.catch_type)
+
+-- the numbers of the elements that pass a test, counted from one on
+abbrev pub numbers_that : {A : Type 0} → (A → Bool) → ℕ → List A → List ℕ
+numbers_that test n [] = []
+numbers_that test n (x ∷ xs) = if test x then n ∷ numbers_that test (suc n) xs else numbers_that test (suc n) xs
+
+-- the numbers of the entries of code that may not be, where there is code; of code that has a fault no entry stands
+abbrev pub bad_rows : List Entry → List Placed → Option Code → List ℕ
+bad_rows pool instrs None = []
+bad_rows pool instrs (Some code) = numbers_that (is_bad_row pool code instrs) 0 code.exception_table
+
+-- the entries of a method
+abbrev pub row_faults : ClassFile → MemberInfo → List Problem
+row_faults file method =
+    map (λ n. problem.Handler (member_of file method) n) (bad_rows file.constant_pool (instrs_of method) (code_attribute method))
+
+-- The entries of exception tables whose range is empty or isn't one of instructions, whose handler is none (JVMS 4.7.3), or that
+-- name an array (JVMS 4.10.1.6): the first method first, and of it the first entry.
+unfoldable pub handler_faults : World → ClassFile → ClassId → List Problem
+handler_faults w file c = flat_map (row_faults file) file.methods
+
 -- ---- all of them
 
 -- the problems of a class: the first kind in this list first, and of one kind the first place
@@ -326,7 +371,8 @@ problems_of w file c =
     ++ (descriptor_broken w file c
     ++ (super_kind w file c
     ++ (name_broken w file c
-    ++ abstract_left w file c)))))))))))
+    ++ (abstract_left w file c
+    ++ handler_faults w file c))))))))))))
 
 -- the problems of a class, each with its name
 abbrev pub faults_in : World → ClassFile → ClassId → List LinkFault

@@ -12,7 +12,7 @@ use Rattle.kilim_program.specs.declared.names.ClassId.{ClassId}
 use Rattle.kilim_program.specs.Program.{Program}
 use Rattle.kilim_program.specs.BuiltIn.{class_id}
 use Rattle.kilim_link_spec.specs.Code.{decoded}
-use Rattle.kilim_link_spec.specs.Faults.{first_fault, link_faults, problems_of, declared_twice, class_missing, circular, member_missing, left_out, both_kinds, field_kinds, override_differs, code_broken, descriptor_broken, super_kind, name_broken, abstract_left}
+use Rattle.kilim_link_spec.specs.Faults.{first_fault, link_faults, problems_of, declared_twice, class_missing, circular, member_missing, left_out, both_kinds, field_kinds, override_differs, code_broken, descriptor_broken, super_kind, name_broken, abstract_left, handler_faults}
 use Rattle.kilim_link_spec.specs.Linked.{Linked, linked_class, linked_field, linked_method, members, numbered, program_with}
 use Rattle.kilim_link_spec.specs.Types.{each_of, itself}
 use Rattle.kilim_link_spec.specs.World.{World, world_of}
@@ -55,6 +55,7 @@ pub record NoProblem (w : World) (file : ClassFile) (c : ClassId) : Type 0 where
   pub super_fits : super_kind w file c ≡ []
   pub name_is_whole : name_broken w file c ≡ []
   pub none_abstract : abstract_left w file c ≡ []
+  pub tables_stand : handler_faults w file c ≡ []
 
 -- no class of some files, from this number on, has a problem
 abbrev pub EachIsWithout : World → ℕ → List ClassFile → Type 0

@@ -1,9 +1,10 @@
 -- The program that some class files are (JVMS chapter 5, own profile): the classes of the files in order and then the
 -- built-in ones, members numbered class by class in declared order, each index of code replaced by what it names in
 -- the named class or its nearest ancestor.
-use Rattle.std.specs.Prelude.{◌≡◌, ℕ, suc, false, if◌then◌else◌, List, [], ◌∷◌, ◌++◌, length, map, Option, Some, None}
+use Rattle.std.specs.Prelude.{◌≡◌, ℕ, suc, false, ◌==◌, if◌then◌else◌, List, [], ◌∷◌, ◌++◌, length, map, Option, Some, None, option_map}
 use Rattle.std.specs.List.{flat_map, filter_map, range_with_len}
 use Rattle.kilim_class_attributes.specs.declared.attribute.Code.{Code}
+use Rattle.kilim_class_attributes.specs.declared.attribute.ExceptionHandler.{ExceptionHandler}
 use Rattle.kilim_class_attributes.specs.declared.attribute.Info.{Info}
 use Rattle.kilim_class_attributes.specs.declared.attribute.Info.TheVariants as info
 use Rattle.kilim_class_file.specs.declared.class_file.ClassFile.{ClassFile}
@@ -13,6 +14,7 @@ use Rattle.kilim_class_pool.specs.Entries.{entry_at}
 use Rattle.kilim_program.specs.declared.class.Class.{Class}
 use Rattle.kilim_program.specs.declared.class.Field.{Field}
 use Rattle.kilim_program.specs.declared.class.Form.{Form}
+use Rattle.kilim_program.specs.declared.class.Handler.{Handler}
 use Rattle.kilim_program.specs.declared.class.Method.{Method}
 use Rattle.kilim_program.specs.declared.instr.Instr.{Instr}
 use Rattle.kilim_program.specs.declared.names.ClassId.{ClassId}
@@ -23,7 +25,7 @@ use Rattle.kilim_program.specs.Program.{Program}
 use Rattle.kilim_program.specs.BuiltIn.{class_id, method_id, built_in_classes_in, built_in_methods_in}
 use Rattle.kilim_program.specs.Kinds.{is_message}
 use Rattle.kilim_program.specs.Names.{◌>>=◌}
-use Rattle.kilim_link_spec.specs.World.{World, world_of, own_name, super_name, class_of, member_name, member_descriptor, has_flag, acc_private, acc_static, acc_abstract, declared_method, field_id, first_method, first_field}
+use Rattle.kilim_link_spec.specs.World.{World, world_of, own_name, super_name, class_of, member_name, member_descriptor, class_text, has_flag, acc_private, acc_static, acc_abstract, declared_method, field_id, first_method, first_field}
 use Rattle.kilim_link_spec.specs.Types.{field_text, method_text, type_in, types_in, result_in, each_of, itself}
 use Rattle.kilim_link_spec.specs.Qualified.{qualified}
 use Rattle.kilim_link_spec.specs.Code.{constant_ref, decoded, code_of}
@@ -75,21 +77,39 @@ code_in _ = None
 abbrev pub code_attribute : MemberInfo → Option Code
 code_attribute method = first_of (filter_map (λ a. code_in a.info) method.attributes)
 
+-- the class that an entry of an exception table names, where it is there; an entry with index 0 catches everything
+abbrev pub catch_of : World → List Entry → ℕ → Option (Option ClassId)
+catch_of w pool index = if index == 0 then Some None else option_map Some (class_of w (class_text pool index))
+
+-- an entry with what it catches
+abbrev pub handler_with : ExceptionHandler → Option ClassId → Handler
+handler_with row catch = record { start = row.start_pc; end = row.end_pc; at = row.handler_pc; catch = catch }
+
+-- an entry of an exception table (JVMS 4.7.3), where what it catches is there
+abbrev pub handler_in : World → List Entry → ExceptionHandler → Option Handler
+handler_in w pool row = option_map (handler_with row) (catch_of w pool row.catch_type)
+
+-- the exception table of code, where what its entries catch is there
+abbrev pub handlers_in : World → List Entry → List ExceptionHandler → Option (List Handler)
+handlers_in w pool rows = each_of (handler_in w pool) rows
+
 -- what the code of a method comes to: without a Code attribute nothing
 abbrev pub no_body : Body
-no_body = record { max_stack = 0; max_locals = 0; code_length = 0; code = []; frames = [] }
+no_body = record { max_stack = 0; max_locals = 0; code_length = 0; code = []; frames = []; handlers = [] }
 
--- with code of these instructions and frames
-abbrev pub body_with : Code → List (ℕ × Instr) → List (ℕ × Frame) → Body
-body_with code instrs frames = record { max_stack = code.max_stack; max_locals = code.max_locals; code_length = length code.code; code = instrs; frames = frames }
+-- with code of these instructions and frames, and with this exception table
+abbrev pub body_with : Code → List (ℕ × Instr) → List Handler → List (ℕ × Frame) → Body
+body_with code instrs handlers frames =
+    record { max_stack = code.max_stack; max_locals = code.max_locals; code_length = length code.code; code = instrs; frames = frames; handlers = handlers }
 
 -- what the code of a method comes to, where it has no fault and all that it names is there
 abbrev pub body_in : World → ClassFile → ClassId → MemberInfo → Option Code → Option Body
 body_in w file c method None = Some no_body
 body_in w file c method (Some code) = do
   instrs ← code_of w file.constant_pool (decoded code.code)
+  handlers ← handlers_in w file.constant_pool code.exception_table
   frames ← frames_in w file c (declared_method file method) code
-  Some (body_with code instrs frames)
+  Some (body_with code instrs handlers frames)
 
 -- a method with its types and its body
 abbrev pub method_with : World → ClassFile → ClassId → MemberInfo → List Ty → Option Ty → Body → Method
@@ -113,7 +133,7 @@ method_with w file c method params result body =
       code_length = body.code_length;
       code = body.code;
       frames = body.frames;
-      handlers = [];
+      handlers = body.handlers;
     }
 
 -- a method of a class in a program, where its types and its body are there

@@ -1,5 +1,5 @@
 -- What a class file names, in the order of its bytes: the superclass, the interfaces, the fields' descriptors, then for
--- each method its descriptor, its code and its frames. Code that has a fault names nothing, nor does an index that names
+-- each method its descriptor, its code, its exception table and its frames. Code that has a fault names nothing, nor does an index that names
 -- no entry of a kind that its instruction takes. Entries of the pool that nothing refers to name nothing.
 use Rattle.std.specs.Prelude.{ℕ, suc, Bool, false, ◌==◌, if◌then◌else◌, List, [], ◌∷◌, ◌++◌, map, Option, Some, None, Result, Ok, Err}
 use Rattle.std.specs.List.{flat_map}
@@ -9,6 +9,7 @@ use Rattle.kilim_class_attributes.specs.declared.parts.frame.Frame.TheVariants.{
 use Rattle.kilim_class_attributes.specs.declared.parts.frame.VerificationType.{VerificationType}
 use Rattle.kilim_class_attributes.specs.declared.parts.frame.VerificationType.TheVariants as entry
 use Rattle.kilim_class_attributes.specs.declared.attribute.Code.{Code}
+use Rattle.kilim_class_attributes.specs.declared.attribute.ExceptionHandler.{ExceptionHandler}
 use Rattle.kilim_class_code.specs.declared.fault.CodeFault.{CodeFault}
 use Rattle.kilim_class_code.specs.Code.{Placed}
 use Rattle.kilim_class_file.specs.declared.class_file.ClassFile.{ClassFile}
@@ -20,7 +21,7 @@ use Rattle.kilim_class_code.specs.declared.opcodes.instr.RawInstr.{RawInstr}
 use Rattle.kilim_program.specs.Names.{◌>>=◌}
 use Rattle.kilim_link_spec.specs.World.{acc_static, has_flag, super_name, interface_names, member_descriptor, class_text}
 use Rattle.kilim_link_spec.specs.Types.{Named, AClass, AnArray, Malformed, named_by, field_text, method_text, type_names, types_of_field, types_of_method}
-use Rattle.kilim_link_spec.specs.Code.{MemberRef, Operand, AConstant, AField, AMethod, AType, index_in, operand_at, decoded}
+use Rattle.kilim_link_spec.specs.Code.{Operand, AConstant, AField, AMethod, AType, index_in, operand_at, decoded}
 use Rattle.kilim_link_spec.specs.Frames.{tables_in}
 use Rattle.kilim_link_spec.specs.Linked.{code_attribute}
 pub use Rattle.kilim_link_spec.specs.declared.named.Mention.{Mention}
@@ -76,6 +77,17 @@ members_of_operand _ = []
 unfoldable pub members_named : ClassFile → List Member
 members_named file = flat_map (λ m. flat_map (λ p. members_of_operand (operand_of file.constant_pool p.1)) (instrs_of m)) file.methods
 
+-- ---- in exception tables
+
+-- what an entry catches, where that isn't everything (JVMS 4.7.3)
+abbrev pub mentions_of_row : List Entry → ExceptionHandler → List Mention
+mentions_of_row pool row = if row.catch_type == 0 then [] else OfClass (named_by (class_text pool row.catch_type)) ∷ []
+
+-- the entries of the table of code, where it is there
+abbrev pub rows_if : Option Code → List ExceptionHandler
+rows_if None = []
+rows_if (Some code) = code.exception_table
+
 -- ---- in frames, the locals before the stack
 
 -- the types that a frame writes down (JVMS 4.7.4)
@@ -104,12 +116,13 @@ frames_if (Some code) = tables_in code
 abbrev pub this_slots : MemberInfo → ℕ
 this_slots method = if has_flag acc_static method.access_flags then 0 else 1
 
--- what a method names: its descriptor, its code, its frames
+-- what a method names: its descriptor, its code, its exception table, its frames
 abbrev pub mentions_of_method : ClassFile → MemberInfo → List Mention
 mentions_of_method file method =
     OfMethod (this_slots method) (member_descriptor file method)
     ∷ (flat_map (λ p. mentions_of_instr file.constant_pool p.1) (instrs_of method)
-    ++ flat_map (λ f. flat_map (mentions_of_slot file.constant_pool) (slots_of_frame f)) (frames_if (code_attribute method)))
+    ++ (flat_map (mentions_of_row file.constant_pool) (rows_if (code_attribute method))
+    ++ flat_map (λ f. flat_map (mentions_of_slot file.constant_pool) (slots_of_frame f)) (frames_if (code_attribute method))))
 
 -- what a file names, in order
 unfoldable pub mentions_of : ClassFile → List Mention

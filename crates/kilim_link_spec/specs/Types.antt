@@ -1,5 +1,5 @@
 -- Types by the texts of descriptors and class names, and what they are in a program.
-use Rattle.std.specs.Prelude.{ℕ, ◌==◌, if◌then◌else◌, List, [], ◌∷◌, ◌++◌, Option, Some, None, option_map, Result, Ok, Err}
+use Rattle.std.specs.Prelude.{ℕ, ◌==◌, if◌then◌else◌, List, [], ◌∷◌, ◌++◌, Option, Some, None, option_map}
 use Rattle.kilim_units.specs.Characters.{left_bracket}
 use Rattle.kilim_class_descriptors.specs.declared.types.BaseText.{BaseText}
 use Rattle.kilim_class_descriptors.specs.declared.types.BaseText.TheVariants as text

@@ -8,7 +8,6 @@ use Rattle.kilim_program.specs.declared.class.Method.{Method}
 use Rattle.kilim_program.specs.declared.names.ClassId.{ClassId}
 use Rattle.kilim_program.specs.declared.names.FieldId.{FieldId}
 use Rattle.kilim_program.specs.declared.names.MethodId.{MethodId}
-use Rattle.kilim_program.specs.declared.ty.Qualifier.{Qualifier}
 use Rattle.kilim_program.specs.declared.ty.Ty.{Ty}
 use Rattle.kilim_program.specs.Program.{Program}
 use Rattle.kilim_program.specs.BuiltIn.{class_id, method_id, built_in_classes_in, built_in_methods_in, is_final_built_in}

@@ -80,6 +80,9 @@ pub enum Problem {
     /// The class isn't abstract and declares or inherits this abstract method, or declares it abstract and private or
     /// static.
     AbstractLeft(MemberName),
+    /// An entry of the exception table of a method, by its number from 0 on: its range is empty or isn't one of
+    /// instructions, its handler is none, or it names an array.
+    Handler(MemberName, usize),
 }
 
 /// Why class files don't link.

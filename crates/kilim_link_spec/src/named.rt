@@ -2,7 +2,7 @@
 
 use crate::fault::MemberOf;
 use kilim_class_descriptors::FieldText;
-use kilim_program::{Frame, Instr, Qualifier, VType, Value};
+use kilim_program::{Frame, Handler, Instr, Qualifier, VType, Value};
 use kilim_units::{Seq, Units};
 
 /// What a class entry of a pool names (JVMS 4.4.1).
@@ -67,4 +67,5 @@ pub struct Body {
     pub code_length: u32,
     pub code: Seq<(u32, Instr)>,
     pub frames: Seq<(u32, Frame)>,
+    pub handlers: Seq<Handler>,
 }

@@ -19,3 +19,4 @@ said (problem.Descriptor text) = refl
 said problem.SuperKind = refl
 said problem.Name = refl
 said (problem.AbstractLeft method) = refl
+said (problem.Handler method number) = refl

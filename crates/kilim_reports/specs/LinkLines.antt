@@ -52,6 +52,7 @@ problem_words (problem.Descriptor text) = codes "descriptor " ++ descriptor_text
 problem_words problem.SuperKind = codes "super"
 problem_words problem.Name = codes "name"
 problem_words (problem.AbstractLeft method) = codes "abstract " ++ method_text method
+problem_words (problem.Handler method number) = codes "handler " ++ (method_text method ++ (codes " " ++ decimal number))
 
 -- the line, with its line feed
 abbrev pub link_line : List ℕ → Problem → List ℕ

@@ -20,6 +20,7 @@ problem_word (problem.Descriptor text) = codes "descriptor "
 problem_word problem.SuperKind = codes "super"
 problem_word problem.Name = codes "name"
 problem_word (problem.AbstractLeft method) = codes "abstract "
+problem_word (problem.Handler method number) = codes "handler "
 
 abbrev pub problem_told : Problem → List ℕ
 problem_told (problem.Twice name) = member_name_text name
@@ -35,3 +36,4 @@ problem_told (problem.Descriptor text) = descriptor_text text
 problem_told problem.SuperKind = []
 problem_told problem.Name = []
 problem_told (problem.AbstractLeft method) = method_text method
+problem_told (problem.Handler method number) = method_text method ++ (codes " " ++ decimal number)

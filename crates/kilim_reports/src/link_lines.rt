@@ -83,6 +83,19 @@ fn push_code(text: &mut Vec<u8>, method: &MemberName, fault: CodeFault) -> Resul
     push_number(text, u64::from(fault_place(fault)))
 }
 
+// A method, and the number of an entry of its exception table.
+fn push_handler(text: &mut Vec<u8>, method: &MemberName, number: usize) -> Result<(), NoMemory>
+    ensures { OnOk result (text.new.items ≡ text.old.items ++ (method_text method.now ++ (codes " " ++ decimal number))) }
+{
+    let Ok(()) = push_method(text, method) else {
+        return Err(NoMemory);
+    };
+    let Ok(()) = push(text, b" ") else {
+        return Err(NoMemory);
+    };
+    push_number(text, number as u64)
+}
+
 // The word of a problem.
 fn problem_word(problem: &Problem) -> &[u8]
     ensures { result.now ≡ problem_word problem.now }
@@ -101,6 +114,7 @@ fn problem_word(problem: &Problem) -> &[u8]
         Problem::SuperKind => b"super",
         Problem::Name => b"name",
         Problem::AbstractLeft(_) => b"abstract ",
+        Problem::Handler(_, _) => b"handler ",
     }
 }
 
@@ -117,6 +131,7 @@ fn push_told(text: &mut Vec<u8>, problem: &Problem) -> Result<(), NoMemory>
             push_method(text, method)
         }
         Problem::Code(method, fault) => push_code(text, method, *fault),
+        Problem::Handler(method, number) => push_handler(text, method, *number),
         Problem::Descriptor(descriptor) => push_descriptor(text, descriptor),
         Problem::Circular | Problem::Both | Problem::SuperKind | Problem::Name => Ok(()),
     }

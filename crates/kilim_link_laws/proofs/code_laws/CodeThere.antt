@@ -1,7 +1,8 @@
 -- The code of a method without a fault is code of the program.
-use Rattle.std.proofs.Common.{◌≡◌, ℕ, true, List, [], ◌∷◌, Option, Some, None, Result, Ok, Err, refl}
+use Rattle.std.proofs.Common.{◌≡◌, ℕ, Bool, true, false, ◌==◌, if◌then◌else◌, List, [], ◌∷◌, Option, Some, None, option_map, Result, Ok, Err, refl, subst}
 use Rattle.std.specs.List.{flat_map, AllByRecursion}
 use Rattle.kilim_class_attributes.specs.declared.attribute.Code.{Code}
+use Rattle.kilim_class_attributes.specs.declared.attribute.ExceptionHandler.{ExceptionHandler}
 use Rattle.kilim_class_code.specs.declared.fault.CodeFault.{CodeFault}
 use Rattle.kilim_class_code.specs.declared.fault.CodeFault.TheVariants as code
 use Rattle.kilim_class_code.specs.Code.{Placed, targets_of, is_place}
@@ -13,20 +14,23 @@ use Rattle.kilim_class_code.specs.declared.opcodes.fault.OpFault.TheVariants as 
 use Rattle.kilim_program.specs.declared.instr.Instr.{Instr}
 use Rattle.kilim_program.specs.declared.names.ClassId.{ClassId}
 use Rattle.kilim_link_spec.specs.Code.{decoded, code_of, index_in, placed_in, instr_in}
-use Rattle.kilim_link_spec.specs.Faults.{bad_index, code_fault, decoded_in, left_out_op}
-use Rattle.kilim_link_spec.specs.Linked.{body_in, body_with, first_of, no_body}
+use Rattle.kilim_link_spec.specs.Faults.{bad_index, begins_as_array, code_fault, decoded_in, left_out_op}
+use Rattle.kilim_link_spec.specs.Linked.{body_in, body_with, catch_of, first_of, handler_in, handler_with, handlers_in, no_body}
 use Rattle.kilim_link_spec.specs.Frames.{frames_in}
-use Rattle.kilim_link_spec.specs.Mentions.{instrs_in, instrs_if, frames_if, operand_of}
+use Rattle.kilim_link_spec.specs.Mentions.{instrs_in, instrs_if, frames_if, operand_of, rows_if}
+use Rattle.kilim_link_spec.specs.declared.named.Mention.TheVariants.{OfClass}
+use Rattle.kilim_link_spec.specs.declared.named.Named.{Named}
+use Rattle.kilim_link_spec.specs.declared.named.Named.TheVariants.{AClass}
 use Rattle.kilim_link_spec.specs.Qualified.{params_of}
-use Rattle.kilim_link_spec.specs.Types.{method_text, type_in}
-use Rattle.kilim_link_spec.specs.World.{World, declared_method, member_descriptor}
+use Rattle.kilim_link_spec.specs.Types.{method_text, named_by, type_in}
+use Rattle.kilim_link_spec.specs.World.{World, class_of, class_text, declared_method, member_descriptor}
 use Rattle.kilim_link_laws.proofs.code_laws.Codes.{no_body_fault}
 use Rattle.kilim_link_laws.proofs.code_laws.Forms.{HasItsForm, decoded_forms, decoded_body}
 use Rattle.kilim_link_laws.proofs.code_laws.FramesThere.{frames_there}
 use Rattle.kilim_link_laws.proofs.code_laws.Good.{Good}
 use Rattle.kilim_link_laws.proofs.code_laws.InstrsThere.{KnownInstr, IsPlace, MembersThere, instr_there, place_there}
 use Rattle.kilim_link_laws.proofs.code_laws.Lists.{all_both, all_map}
-use Rattle.kilim_link_laws.proofs.code_laws.Mentions.{InstrMentions, FrameMentions}
+use Rattle.kilim_link_laws.proofs.code_laws.Mentions.{InstrMentions, FrameMentions, RowMentions}
 use Rattle.kilim_link_laws.proofs.code_laws.Nothing.{flat_map_none}
 use Rattle.kilim_link_laws.proofs.code_laws.There.{There, there, map_there, next_there, each_there, AllThere}
 
@@ -53,11 +57,38 @@ none_first : {A : Type 0} (xs : List A) → first_of xs ≡ None → xs ≡ []
 none_first [] e = refl
 none_first (x ∷ xs) e = absurd (cc)
 
+-- ---- exception tables
+
+-- an entry names no array
+abbrev pub NoArray : ClassFile → ExceptionHandler → Type 0
+NoArray file row = begins_as_array (class_text file.constant_pool row.catch_type) ≡ false
+
+named_plainly : (u : ℕ) (us : List ℕ) → (u == 91) ≡ false → named_by (u ∷ us) ≡ AClass (u ∷ us)
+named_plainly u us e = rw e refl
+
+-- a class that is named, and no array, is there
+class_there : (w : World) (text : List ℕ) → begins_as_array text ≡ false → Good w (OfClass (named_by text)) → There (class_of w text)
+class_there w [] e g = g.names.0.there
+class_there w (u ∷ us) e g = (subst (λ (n : Named). Good w (OfClass n)) (named_plainly u us e) g).names.0.there
+
+catch_by : (w : World) (text : List ℕ) (z : Bool) → begins_as_array text ≡ false → AllByRecursion (Good w) (if z then [] else OfClass (named_by text) ∷ []) → There (if z then Some None else option_map Some (class_of w text))
+catch_by w text true e g = there None
+catch_by w text false e g = map_there Some (class_of w text) (class_there w text e g.0)
+
+handlers_there : (w : World) (file : ClassFile) (rows : List ExceptionHandler) → AllByRecursion (RowMentions (Good w) file) rows → AllByRecursion (NoArray file) rows → There (handlers_in w file.constant_pool rows)
+handlers_there w file rows mentions no_arrays =
+    let pool = file.constant_pool in
+    let one = λ (row : ExceptionHandler) (g : RowMentions (Good w) file row) (e : NoArray file row).
+    map_there (handler_with row) (catch_of w pool row.catch_type) (catch_by w (class_text pool row.catch_type) (row.catch_type == 0) e g) in
+    each_there (handler_in w pool) rows (all_both (RowMentions (Good w) file) (NoArray file) (λ row. There (handler_in w pool row)) one rows mentions no_arrays)
+
 -- ---- what is known of a method's code where there is no fault
 
 pub record KnownCode (w : World) (file : ClassFile) (attribute : Option Code) : Type 0 where
   pub mentions : AllByRecursion (InstrMentions (Good w) file) (instrs_in attribute)
   pub members : AllByRecursion (λ (p : Placed). MembersThere w (operand_of file.constant_pool p.1)) (instrs_in attribute)
+  pub rows : AllByRecursion (RowMentions (Good w) file) (rows_if attribute)
+  pub no_arrays : AllByRecursion (NoArray file) (rows_if attribute)
   pub frames : AllByRecursion (FrameMentions (Good w) file) (frames_if attribute)
   pub faults : AllByRecursion (λ r. code_fault file.constant_pool r ≡ None) (decoded_in attribute)
   pub left_out : AllByRecursion (λ r. left_out_op r ≡ None) (decoded_in attribute)
@@ -101,4 +132,5 @@ module _ (places : TargetsArePlaces) where
   body_there w file c method (Some code) params k =
       let frames = frames_there w file c (declared_method file method) code params k.frames in
       next_there (code_of w file.constant_pool (decoded code.code)) _ (code_there w file code.code (decoded code.code) refl k.mentions k.members k.faults.0 k.left_out.0)
-      (λ instrs is. next_there (frames_in w file c (declared_method file method) code) (λ fs. Some (body_with code instrs fs)) frames (λ fs are. there (body_with code instrs fs)))
+      (λ instrs is. next_there (handlers_in w file.constant_pool code.exception_table) _ (handlers_there w file code.exception_table k.rows k.no_arrays)
+      (λ handlers hs. next_there (frames_in w file c (declared_method file method) code) (λ fs. Some (body_with code instrs handlers fs)) frames (λ fs are. there (body_with code instrs handlers fs))))

@@ -7,6 +7,7 @@ use Rattle.kilim_class_file.specs.declared.class_file.MemberInfo.{MemberInfo}
 use Rattle.kilim_class_descriptors.specs.declared.types.FieldText.{FieldText}
 use Rattle.kilim_class_descriptors.specs.declared.types.MethodText.{MethodText}
 use Rattle.kilim_program.specs.declared.class.Field.{Field}
+use Rattle.kilim_program.specs.declared.class.Handler.{Handler}
 use Rattle.kilim_program.specs.declared.class.Method.{Method}
 use Rattle.kilim_program.specs.declared.instr.Instr.{Instr}
 use Rattle.kilim_program.specs.declared.names.ClassId.{ClassId}
@@ -15,7 +16,7 @@ use Rattle.kilim_program.specs.declared.verified.Frame.{Frame}
 use Rattle.kilim_program.specs.Names.{◌>>=◌}
 use Rattle.kilim_link_spec.specs.Code.{decoded, code_of}
 use Rattle.kilim_link_spec.specs.Frames.{frames_in}
-use Rattle.kilim_link_spec.specs.Linked.{body_in, body_with, code_attribute, field_with, linked_field, linked_method, method_with}
+use Rattle.kilim_link_spec.specs.Linked.{body_in, body_with, handlers_in, code_attribute, field_with, linked_field, linked_method, method_with}
 use Rattle.kilim_link_spec.specs.declared.named.Body.{Body}
 use Rattle.kilim_link_spec.specs.Types.{field_text, method_text, type_in, types_in, result_in}
 use Rattle.kilim_link_spec.specs.World.{World, declared_method, member_descriptor}
@@ -78,14 +79,18 @@ method_parts w file c method y e =
 
 pub record BodyParts (w : World) (file : ClassFile) (c : ClassId) (method : MemberInfo) (code : Code) (body : Body) : Type 0 where
   pub instrs : List (ℕ × Instr)
+  pub handlers : List Handler
   pub frames : List (ℕ × Frame)
   pub instrs_are : code_of w file.constant_pool (decoded code.code) ≡ Some instrs
+  pub handlers_are : handlers_in w file.constant_pool code.exception_table ≡ Some handlers
   pub frames_are : frames_in w file c (declared_method file method) code ≡ Some frames
-  pub is : body ≡ body_with code instrs frames
+  pub is : body ≡ body_with code instrs handlers frames
 
 pub body_parts : (w : World) (file : ClassFile) (c : ClassId) (method : MemberInfo) (code : Code) (body : Body) → body_in w file c method (Some code) ≡ Some body → BodyParts w file c method code body
 body_parts w file c method code body e =
-    let with_frames = λ (instrs : List (ℕ × Instr)). frames_in w file c (declared_method file method) code >>= λ frames. Some (body_with code instrs frames) in
-    let a = bound (code_of w file.constant_pool (decoded code.code)) with_frames body e in
-    let b = bound (frames_in w file c (declared_method file method) code) (λ frames. Some (body_with code a.x frames)) body a.then in
-    record { instrs = a.x; frames = b.x; instrs_are = a.there; frames_are = b.there; is = sym (same_Some (body_with code a.x b.x) body b.then) }
+    let with_frames = λ (instrs : List (ℕ × Instr)) (handlers : List Handler). frames_in w file c (declared_method file method) code >>= λ frames. Some (body_with code instrs handlers frames) in
+    let with_handlers = λ (instrs : List (ℕ × Instr)). handlers_in w file.constant_pool code.exception_table >>= with_frames instrs in
+    let a = bound (code_of w file.constant_pool (decoded code.code)) with_handlers body e in
+    let h = bound (handlers_in w file.constant_pool code.exception_table) (with_frames a.x) body a.then in
+    let b = bound (frames_in w file c (declared_method file method) code) (λ frames. Some (body_with code a.x h.x frames)) body h.then in
+    record { instrs = a.x; handlers = h.x; frames = b.x; instrs_are = a.there; handlers_are = h.there; frames_are = b.there; is = sym (same_Some (body_with code a.x h.x b.x) body b.then) }

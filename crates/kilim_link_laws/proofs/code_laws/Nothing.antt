@@ -1,8 +1,9 @@
 -- Lists in which nothing is, taken apart.
-use Rattle.std.proofs.Common.{◌≡◌, Bool, false, List, [], ◌∷◌, ◌++◌, map, filter}
+use Rattle.std.proofs.Common.{◌≡◌, ℕ, suc, Bool, false, List, [], ◌∷◌, ◌++◌, map, filter}
 use Rattle.std.specs.List.{list_any, flat_map, AllByRecursion}
 use Rattle.std.proofs.lemmas.Bool.{or_parts}
 use Rattle.kilim_lemmas.proofs.Lists.{front_none, rest_none, cond_none}
+use Rattle.kilim_link_spec.specs.Faults.{numbers_that}
 
 pub flat_map_none : {A B : Type 0} (f : A → List B) (xs : List A) → flat_map f xs ≡ [] → AllByRecursion (λ x. f x ≡ []) xs
 flat_map_none f [] e = tt
@@ -33,3 +34,8 @@ all_mapped P f (x ∷ xs) all = (all.0, all_mapped P f xs all.1)
 pub all_flat : {A B : Type 0} (P : B → Type 0) (f : A → List B) (xs : List A) → AllByRecursion P (flat_map f xs) → AllByRecursion (λ x. AllByRecursion P (f x)) xs
 all_flat P f [] all = tt
 all_flat P f (x ∷ xs) all = (all_front P (f x) (flat_map f xs) all, all_flat P f xs (all_rest P (f x) (flat_map f xs) all))
+
+-- no element passes the test where no number is one of such an element
+pub no_numbers : {A : Type 0} (test : A → Bool) (n : ℕ) (xs : List A) → numbers_that test n xs ≡ [] → AllByRecursion (λ x. test x ≡ false) xs
+no_numbers test n [] e = tt
+no_numbers test n (x ∷ xs) e = let k = cond_none (test x) n (numbers_that test (suc n) xs) e in (k.0, no_numbers test (suc n) xs k.1)

@@ -1,7 +1,9 @@
 -- Where there is no fault there is a program.
-use Rattle.std.proofs.Common.{◌≡◌, false, List, [], ◌∷◌, Option, Some, None, refl, ap, sym, subst}
+use Rattle.std.proofs.Common.{◌≡◌, Bool, false, ◌||◌, not, List, [], ◌∷◌, Option, Some, None, refl, ap, sym, subst}
+use Rattle.std.proofs.lemmas.Bool.{or_parts}
 use Rattle.std.specs.List.{flat_map, filter_map, cons_option, AllByRecursion}
 use Rattle.kilim_lemmas.proofs.Lists.{map_none}
+use Rattle.kilim_class_attributes.specs.declared.attribute.Code.{Code}
 use Rattle.kilim_class_code.specs.Code.{Placed}
 use Rattle.kilim_class_code.specs.Exact.{TargetsArePlaces}
 use Rattle.kilim_class_file.specs.declared.class_file.ClassFile.{ClassFile}
@@ -14,24 +16,24 @@ use Rattle.kilim_program.specs.declared.class.Method.{Method}
 use Rattle.kilim_program.specs.declared.names.ClassId.{ClassId}
 use Rattle.kilim_program.specs.declared.ty.Ty.{Ty}
 use Rattle.kilim_program.specs.Names.{◌>>=◌}
-use Rattle.kilim_link_spec.specs.Faults.{code_broken, code_fault, code_faults, decoded_in, is_no_member, left_out_op, member_missing}
+use Rattle.kilim_link_spec.specs.Faults.{bad_rows, begins_as_array, handler_faults, is_bad_row, row_faults, row_stands, code_broken, code_fault, code_faults, decoded_in, is_no_member, left_out_op, member_missing}
 use Rattle.kilim_link_spec.specs.Laws.{NoProblem, NoneHasAProblem, NoneOfEachKind}
 use Rattle.kilim_link_spec.specs.Linked.{body_in, code_attribute, linked_class, linked_field, linked_method, method_with, field_with, members, numbered, program_of, program_with}
 use Rattle.kilim_link_spec.specs.declared.named.Body.{Body}
-use Rattle.kilim_link_spec.specs.Mentions.{this_slots, members_named, members_of_operand, operand_of, instrs_of}
+use Rattle.kilim_link_spec.specs.Mentions.{this_slots, members_named, members_of_operand, operand_of, instrs_of, rows_if}
 use Rattle.kilim_link_spec.specs.declared.named.Member.{Member}
 use Rattle.kilim_link_spec.specs.declared.named.Mention.TheVariants.{OfField}
 use Rattle.kilim_link_spec.specs.Qualified.{params_of}
 use Rattle.kilim_link_spec.specs.Types.{each_of, itself, field_text, method_text, type_in, types_in, result_in}
-use Rattle.kilim_link_spec.specs.World.{World, world_of, class_of, super_name, member_descriptor}
-use Rattle.kilim_link_laws.proofs.code_laws.CodeThere.{KnownCode, body_there}
+use Rattle.kilim_link_spec.specs.World.{World, world_of, class_of, class_text, super_name, member_descriptor}
+use Rattle.kilim_link_laws.proofs.code_laws.CodeThere.{KnownCode, NoArray, body_there}
 use Rattle.kilim_link_laws.proofs.code_laws.Files.{each_without, each_file_map}
 use Rattle.kilim_link_laws.proofs.code_laws.Good.{Good, good_mentions}
 use Rattle.kilim_link_laws.proofs.code_laws.InstrsThere.{MembersThere}
 use Rattle.kilim_link_laws.proofs.code_laws.LeftOut.{nothing_left_out}
 use Rattle.kilim_link_laws.proofs.code_laws.Lists.{EachFile, all_both, all_map}
 use Rattle.kilim_link_laws.proofs.code_laws.Mentions.{FileMentions, MethodMentions, file_mentions}
-use Rattle.kilim_link_laws.proofs.code_laws.Nothing.{flat_map_none, filter_none, all_flat}
+use Rattle.kilim_link_laws.proofs.code_laws.Nothing.{flat_map_none, filter_none, all_flat, no_numbers}
 use Rattle.kilim_link_laws.proofs.code_laws.There.{There, there, same_there, next_there, AllThere, classes_there, members_there}
 use Rattle.kilim_link_laws.proofs.code_laws.TypesThere.{field_there, method_there}
 use Rattle.kilim_link_laws.specs.code_laws.Facts.{NoFaultLinks}
@@ -78,11 +80,29 @@ all_not_left w file c none =
     let of_method = λ (m : MemberInfo). decoded_in (code_attribute m) in
     all_flat (λ r. left_out_op r ≡ None) of_method file.methods (filter_map_none left_out_op (flat_map of_method file.methods) (nothing_left_out w file c none.none_left_out).ops)
 
+or_last : (x y : Bool) → (x || y) ≡ false → y ≡ false
+or_last x y e = (or_parts x y e).1
+
+no_array : (file : ClassFile) (m : MemberInfo) (o : Option Code) → bad_rows file.constant_pool (instrs_of m) o ≡ [] → AllByRecursion (NoArray file) (rows_if o)
+no_array file m None e = tt
+no_array file m (Some code) e =
+    let pool = file.constant_pool in
+    let bad = is_bad_row pool code (instrs_of m) in
+    all_map (λ row. bad row ≡ false) (NoArray file) (λ row b. or_last (not (row_stands code (instrs_of m) row)) (begins_as_array (class_text pool row.catch_type)) b) code.exception_table (no_numbers bad 0 code.exception_table e)
+
+all_no_arrays : (w : World) (file : ClassFile) (c : ClassId) → NoProblem w file c → AllByRecursion (λ m. AllByRecursion (NoArray file) (rows_if (code_attribute m))) file.methods
+unfolding handler_faults
+all_no_arrays w file c none =
+    all_map (λ m. row_faults file m ≡ []) (λ m. AllByRecursion (NoArray file) (rows_if (code_attribute m))) (λ m e. no_array file m (code_attribute m) (map_none _ _ e)) file.methods
+    (flat_map_none (row_faults file) file.methods none.tables_stand)
+
 known_methods : (w : World) (file : ClassFile) (c : ClassId) → NoProblem w file c → FileMentions (Good w) file → AllByRecursion (Known w file) file.methods
 known_methods w file c none mentions =
-    let both = all_both (Decoded file) NotLeftOut (λ m. MethodMentions (Good w) file m → Members w file m → Known w file m)
-    (λ m d n mentioned named. record { mentions = mentioned; code = record { mentions = mentioned.code; members = named; frames = mentioned.frames; faults = d; left_out = n } })
+    let NoArrays = λ (m : MemberInfo). AllByRecursion (NoArray file) (rows_if (code_attribute m)) in
+    let sound = all_both (Decoded file) NotLeftOut (λ m. NoArrays m → MethodMentions (Good w) file m → Members w file m → Known w file m)
+    (λ m d n a mentioned named. record { mentions = mentioned; code = record { mentions = mentioned.code; members = named; rows = mentioned.rows; no_arrays = a; frames = mentioned.frames; faults = d; left_out = n } })
     file.methods (all_decoded w file c none) (all_not_left w file c none) in
+    let both = all_both (λ m. NoArrays m → MethodMentions (Good w) file m → Members w file m → Known w file m) NoArrays (λ m. MethodMentions (Good w) file m → Members w file m → Known w file m) (λ m f x. f x) file.methods sound (all_no_arrays w file c none) in
     let with_mentions = all_both (λ m. MethodMentions (Good w) file m → Members w file m → Known w file m) (MethodMentions (Good w) file) (λ m. Members w file m → Known w file m) (λ m f x. f x) file.methods both mentions.methods in
     all_both (λ m. Members w file m → Known w file m) (Members w file) (Known w file) (λ m f x. f x) file.methods with_mentions (all_members w file c none)
 

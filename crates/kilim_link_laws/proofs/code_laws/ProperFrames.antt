@@ -27,7 +27,6 @@ use Rattle.kilim_program.specs.declared.verified.VType.TheVariants.{Top, Int, Lo
 use Rattle.kilim_program.specs.BuiltIn.{built_in_methods_in}
 use Rattle.kilim_program.specs.Keeps.{frame_is_proper, frames_are_proper, halves_stand, is_proper}
 use Rattle.kilim_program.specs.Lengths.{is_reference, is_reference_type}
-use Rattle.kilim_program.specs.Names.{is_empty}
 use Rattle.kilim_program.specs.Program.{Program}
 use Rattle.kilim_link_spec.specs.Frames.{slot_in, slot_of_type, slot_of_base, receiver_entry, entry_locals, entries_of, delta_of, place_after, placed_frame, frame_of, frame_with, local_slots, frames_from, tables_in}
 use Rattle.kilim_link_spec.specs.declared.named.Body.{Body}
@@ -46,7 +45,7 @@ use Rattle.kilim_link_laws.proofs.code_laws.References.{is_reference_named, name
 use Rattle.kilim_link_laws.proofs.code_laws.Rows.{mapped}
 use Rattle.kilim_link_laws.proofs.code_laws.Tables.{applied_parts}
 use Rattle.kilim_link_laws.proofs.code_laws.There.{all_append, all_to_map}
-use Rattle.kilim_link_laws.specs.code_laws.Facts.{FramesAreProper, NoneHasHandlers}
+use Rattle.kilim_link_laws.specs.code_laws.Facts.{FramesAreProper}
 
 -- ---- a slot
 
@@ -199,18 +198,6 @@ unfolding frames_are_proper
 built_in_proper Plain n = refl
 built_in_proper Woven n = refl
 
-abbrev has_no_handler : Method → Bool
-has_no_handler m = is_empty m.handlers
-
-no_handler : (w : World) (file : ClassFile) (c : ClassId) (method : MemberInfo) (y : Method) → linked_method w file c method ≡ Some y → has_no_handler y ≡ true
-no_handler w file c method y e =
-    let m = method_parts w file c method y e in
-    subst (λ x. has_no_handler x ≡ true) (sym m.is) refl
-
-built_in_no_handler : (form : Form) (n : ℕ) → list_all has_no_handler (built_in_methods_in form n) ≡ true
-built_in_no_handler Plain n = refl
-built_in_no_handler Woven n = refl
-
 module _ (in_parts : LinkedInParts) where
   each_method : (test : Method → Bool) → ((w : World) (file : ClassFile) (c : ClassId) (method : MemberInfo) (y : Method) → linked_method w file c method ≡ Some y → test y ≡ true)
       → ((form : Form) (n : ℕ) → list_all test (built_in_methods_in form n) ≡ true) → (files : List ClassFile) (form : Form) (p : Program) → LinksWell files form p → list_all test p.methods ≡ true
@@ -222,6 +209,3 @@ module _ (in_parts : LinkedInParts) where
 
   pub frames_are_proper_there : FramesAreProper
   frames_are_proper_there = each_method frames_are_proper method_proper built_in_proper
-
-  pub none_has_handlers : NoneHasHandlers
-  none_has_handlers = each_method has_no_handler no_handler built_in_no_handler

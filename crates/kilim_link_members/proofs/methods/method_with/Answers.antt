@@ -1,4 +1,4 @@
-use Rattle.std.proofs.Common.{Some, Option, false, [], ap, ◌∙◌}
+use Rattle.std.proofs.Common.{Some, Option, false, ap, ◌∙◌}
 use Rattle.kilim_program.specs.declared.class.Method.{Method}
 use Rattle.kilim_link_spec.specs.declared.view.DeclaredMethod.{DeclaredMethod}
 use Rattle.kilim_link_spec.specs.Qualified.{qualified}
@@ -25,7 +25,7 @@ returns-in-Ok c =
       code_length = body.code_length;
       code = body.code;
       frames = body.frames;
-      handlers = [];
+      handlers = body.handlers;
     }) in
     ap (λ (m : Method). Some m) (λ i. record {
       name = c.in-Ok.ensures.name i;
@@ -44,6 +44,6 @@ returns-in-Ok c =
       code_length = body.code_length;
       code = body.code;
       frames = body.frames;
-      handlers = c.new.ensures i;
+      handlers = body.handlers;
     })
     ∙ ap made c.requires.declared
