@@ -4,7 +4,7 @@ use Rattle.kilim_class_code.specs.Code.{targets_of, is_place, first_failing, mid
 use Rattle.kilim_class_code.specs.Exact.{body_fault}
 use Rattle.kilim_link_spec.specs.Annotations.{types_on_member, params_in}
 use Rattle.kilim_link_spec.specs.Code.{instrs_from, decoded, instr_in}
-use Rattle.kilim_link_spec.specs.Faults.{declared_twice, class_missing, is_circular, circular, member_missing, left_out_parts, left_out, both_kinds, field_kinds, override_differs, code_broken, descriptor_broken, super_kind, is_class_name, name_broken, abstract_left, problems_of, link_faults, first_fault}
+use Rattle.kilim_link_spec.specs.Faults.{declared_twice, class_missing, is_circular, circular, member_missing, left_out_parts, left_out, both_kinds, field_kinds, override_differs, code_broken, descriptor_broken, super_kind, is_class_name, name_broken, abstract_left, problems_of, link_faults, handler_faults, first_fault}
 use Rattle.kilim_link_spec.specs.Frames.{frames_from}
 use Rattle.kilim_link_spec.specs.Linked.{program_of}
 use Rattle.kilim_link_spec.specs.Mentions.{members_named, mentions_of, class_names, all_types}
@@ -20,5 +20,5 @@ use Rattle.kilim_program.specs.Lengths.{has_length, jump_targets, ends_path, cod
 use Rattle.kilim_theorems.specs.link_examples.Agreement.{FaultsAndFactsAgree}
 
 pub faults_and_facts_agree : FaultsAndFactsAgree
-unfolding types_on_member params_in class_text world_of qualified instrs_from decoded instr_in frames_from program_of members_named mentions_of class_names all_types declared_twice class_missing is_circular circular member_missing left_out_parts left_out both_kinds field_kinds override_differs code_broken descriptor_broken super_kind is_class_name name_broken abstract_left problems_of link_faults first_fault targets_of is_place first_failing mid_target ends falls_off body_fault rows opcodes_form_of target_at zeros_at range_at table_at count_at opcodes_pair_at pairs_at lookup_at wide_operands_at wide_at operands_at instr_at descriptors_class_at base_at field_behind field_at param_at params_at result_at whole_field whole_method text_of has_its_code many ids_are_places none_is_its_ancestor code_is_whole members_are_owned names_differ method_is_sound overriding_agrees none_is_left_abstract none_is_both no_task_arrays superclasses_fit own_classes_fit fields_fit constants_fit has_length jump_targets ends_path code_stands targets_stand code_ends places_increase
+unfolding types_on_member params_in class_text world_of qualified instrs_from decoded instr_in frames_from program_of members_named mentions_of class_names all_types declared_twice class_missing is_circular circular member_missing left_out_parts left_out both_kinds field_kinds override_differs code_broken descriptor_broken super_kind is_class_name name_broken abstract_left handler_faults problems_of link_faults first_fault targets_of is_place first_failing mid_target ends falls_off body_fault rows opcodes_form_of target_at zeros_at range_at table_at count_at opcodes_pair_at pairs_at lookup_at wide_operands_at wide_at operands_at instr_at descriptors_class_at base_at field_behind field_at param_at params_at result_at whole_field whole_method text_of has_its_code many ids_are_places none_is_its_ancestor code_is_whole members_are_owned names_differ method_is_sound overriding_agrees none_is_left_abstract none_is_both no_task_arrays superclasses_fit own_classes_fit fields_fit constants_fit has_length jump_targets ends_path code_stands targets_stand code_ends places_increase
 faults_and_facts_agree = record { good = refl; bad = refl; foreign = refl; foreign_woven = refl }

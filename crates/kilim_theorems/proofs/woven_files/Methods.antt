@@ -13,6 +13,7 @@ use Rattle.kilim_class_file.specs.declared.class_file.MemberInfo.{MemberInfo}
 use Rattle.kilim_class_pool.specs.declared.entry.Entry.{Entry}
 use Rattle.kilim_class_code.specs.declared.opcodes.instr.RawInstr.{RawInstr}
 use Rattle.kilim_class_code.specs.declared.opcodes.instr.RawInstr.TheVariants as raw
+use Rattle.kilim_program.specs.declared.class.Handler.{Handler}
 use Rattle.kilim_program.specs.declared.instr.Instr.{Instr}
 use Rattle.kilim_program.specs.declared.names.ClassId.{ClassId}
 use Rattle.kilim_program.specs.declared.verified.Frame.{Frame}
@@ -27,7 +28,7 @@ use Rattle.kilim_link_spec.specs.Types.{each_of, itself, with_first}
 use Rattle.kilim_link_spec.specs.Code.{instr_in, decoded, code_of, placed_in}
 use Rattle.kilim_link_spec.specs.Frames.{frames_from, frames_in, table_in, entry_locals}
 use Rattle.kilim_link_spec.specs.Laws.{DecodedIsDecode}
-use Rattle.kilim_link_spec.specs.Linked.{body_with, body_in}
+use Rattle.kilim_link_spec.specs.Linked.{body_with, body_in, handlers_in}
 use Rattle.kilim_class_making.specs.pool_needs.Adding.{text_index}
 use Rattle.kilim_theorems.specs.woven_files.pool.Pools.{SameOperands}
 use Rattle.kilim_weave_file_spec.specs.Raw.{raw_code}
@@ -128,10 +129,14 @@ table_back v w pool x locals s None = table_by_frames v w pool locals x.method.f
 
 pub body_back : DecodedIsDecode → (w : Program) (u v : World) (file : ClassFile) (c : ClassId) (method : MemberInfo) (old : List Entry) (at : ℕ → ℕ) (x : MethodPair) (code : Code) →
     CodeStands w u v old file.constant_pool at x code → FramesStand v w file.constant_pool x → x.method.code_length ≡ length (woven_bytes w old file.constant_pool x.method x.counted code) →
-    body_in v file c method (Some (woven_code w old file.constant_pool x.method x.counted code)) ≡ Some (record { max_stack = x.method.max_stack; max_locals = x.method.max_locals; code_length = x.method.code_length; code = x.method.code; frames = x.method.frames })
+    body_in v file c method (Some (woven_code w old file.constant_pool x.method x.counted code)) ≡ Some (record { max_stack = x.method.max_stack; max_locals = x.method.max_locals; code_length = x.method.code_length; code = x.method.code; frames = x.method.frames; handlers = x.method.handlers })
 body_back law w u v file c method old at x code s f size =
     let pool = file.constant_pool in
     let frames : Option (List (ℕ × Frame)) = frames_in v file c (declared_method file method) (woven_code w old pool x.method x.counted code) in
-    ap (λ i. i >>= λ instrs. frames >>= λ fs. Some (body_with (woven_code w old pool x.method x.counted code) instrs fs)) (woven_code_back law w u v old pool at x code s)
-    ∙ (ap (λ g. g >>= λ fs. Some (body_with (woven_code w old pool x.method x.counted code) x.method.code fs)) (table_back v w pool x (entry_locals v c (declared_method file method)) f (old_table code))
-    ∙ ap (λ n. Some (record { max_stack = x.method.max_stack; max_locals = x.method.max_locals; code_length = n; code = x.method.code; frames = x.method.frames })) (sym size))
+    let woven : Code = woven_code w old pool x.method x.counted code in
+    let table : Option (List Handler) = handlers_in v pool code.exception_table in
+    let none : table ≡ Some x.method.handlers = ap (handlers_in v pool) s.rows ∙ ap (λ hs. Some hs) (sym s.handlers) in
+    ap (λ i. i >>= λ instrs. table >>= λ hs. frames >>= λ fs. Some (body_with woven instrs hs fs)) (woven_code_back law w u v old pool at x code s)
+    ∙ (ap (λ t. t >>= λ hs. frames >>= λ fs. Some (body_with woven x.method.code hs fs)) none
+    ∙ (ap (λ g. g >>= λ fs. Some (body_with woven x.method.code x.method.handlers fs)) (table_back v w pool x (entry_locals v c (declared_method file method)) f (old_table code))
+    ∙ ap (λ n. Some (record { max_stack = x.method.max_stack; max_locals = x.method.max_locals; code_length = n; code = x.method.code; frames = x.method.frames; handlers = x.method.handlers })) (sym size)))

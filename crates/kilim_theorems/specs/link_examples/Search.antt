@@ -224,17 +224,22 @@ first_of_two = Named (names_many ∷ []) p_name (problem.Missing (codes "S"))
 abbrev pub owner_before_descriptor : Type 0
 owner_before_descriptor = Named (calls p_name object 184 x_name m_name (codes "(LY;)V") ∷ []) p_name (problem.Missing x_name)
 
--- ---- what names nothing: an exception that is listed or caught, an annotation's type, an entry that nothing refers to
+-- ---- what names nothing: an exception that is listed, an entry of an exception table that catches everything, an annotation's type, an
+-- entry that nothing refers to; and one that catches a class, which names it
 
-abbrev pub names_none : ClassFile
-names_none =
+-- by what the entry of its exception table catches
+abbrev pub catching : ℕ → ClassFile
+catching catch =
     class_with 0x0020 p_name object nothing (entry.Utf8 x_name ∷ entry.Class 8 ∷ entry.Utf8 (codes "LX;") ∷ []) 0x0008
-    (record { attribute_name_index = 7; info = info.Code (record { max_stack = 0; max_locals = 0; code = 177 ∷ []; exception_table = record { start_pc = 0; end_pc = 1; handler_pc = 0; catch_type = 9 } ∷ []; attributes = [] }) }
+    (record { attribute_name_index = 7; info = info.Code (record { max_stack = 0; max_locals = 0; code = 177 ∷ []; exception_table = record { start_pc = 0; end_pc = 1; handler_pc = 0; catch_type = catch } ∷ []; attributes = [] }) }
     ∷ record { attribute_name_index = 5; info = info.Exceptions (9 ∷ []) }
     ∷ record { attribute_name_index = 5; info = info.RuntimeVisibleAnnotations (Annotations 1 ∷ Annotation 10 0 ∷ []) } ∷ [])
 
 abbrev pub none_is_named : Type 0
-none_is_named = class_names names_none ≡ object ∷ []
+none_is_named = class_names (catching 0) ≡ object ∷ []
+
+abbrev pub caught_is_named : Type 0
+caught_is_named = class_names (catching 9) ≡ object ∷ x_name ∷ []
 
 -- code that falls off its end; the frames of such code name classes
 abbrev pub broken_code : Type 0
@@ -385,6 +390,7 @@ pub record SearchesHold : Type 0 where
   pub has_first_of_two : first_of_two
   pub has_owner_before_descriptor : owner_before_descriptor
   pub has_none_is_named : none_is_named
+  pub has_caught_is_named : caught_is_named
   pub has_broken_code : broken_code
   pub has_broken_code_with_frames : broken_code_with_frames
   pub has_index_of_wrong_kind : index_of_wrong_kind

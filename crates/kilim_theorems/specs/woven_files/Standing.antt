@@ -145,6 +145,9 @@ pub record CodeStands (w : Program) (u v : World) (old pool : List Entry) (at : 
   -- with pausable calls the code is woven, else kept
   pub woven : has_calls w x.method ≡ true → BodyFits (raw_code w old pool x.method.code x.counted olds) × CodeFits u v w old pool at x.method.code x.counted olds
   pub kept : has_calls w x.method ≡ false → CodeCallsNone w x.method.code × (each_of (placed_in u old) olds ≡ Some x.method.code)
+  -- a method that pauses has no exception table
+  pub rows : code.exception_table ≡ []
+  pub handlers : x.method.handlers ≡ []
 
 pub record FramesStand (v : World) (w : Program) (pool : List Entry) (x : MethodPair) : Type 0 where
   pub increase : Increase 0 x.method.frames
@@ -152,7 +155,7 @@ pub record FramesStand (v : World) (w : Program) (pool : List Entry) (x : Method
 
 -- the body of a method
 abbrev pub body_of : Method → Body
-body_of m = record { max_stack = m.max_stack; max_locals = m.max_locals; code_length = m.code_length; code = m.code; frames = m.frames }
+body_of m = record { max_stack = m.max_stack; max_locals = m.max_locals; code_length = m.code_length; code = m.code; frames = m.frames; handlers = m.handlers }
 
 -- what is known of a method that pauses, and of its code
 pub record MethodStands (w : Program) (u v : World) (file woven : ClassFile) (c : ClassId) (at : ℕ → ℕ) (x : MethodPair) : Type 0 where

@@ -6,7 +6,7 @@ use Rattle.kilim_class_code.specs.Code.{targets_of, is_place, first_failing, mid
 use Rattle.kilim_class_code.specs.Exact.{body_fault}
 use Rattle.kilim_link_spec.specs.Annotations.{types_on_member, params_in}
 use Rattle.kilim_link_spec.specs.Code.{instrs_from, decoded, instr_in}
-use Rattle.kilim_link_spec.specs.Faults.{declared_twice, class_missing, is_circular, circular, member_missing, left_out_parts, left_out, both_kinds, field_kinds, override_differs, code_broken, descriptor_broken, super_kind, is_class_name, name_broken, abstract_left, problems_of, link_faults, first_fault}
+use Rattle.kilim_link_spec.specs.Faults.{declared_twice, class_missing, is_circular, circular, member_missing, left_out_parts, left_out, both_kinds, field_kinds, override_differs, code_broken, descriptor_broken, super_kind, is_class_name, name_broken, abstract_left, problems_of, link_faults, handler_faults, first_fault}
 use Rattle.kilim_link_spec.specs.Frames.{frames_from}
 use Rattle.kilim_link_spec.specs.Linked.{Linked, program_of}
 use Rattle.kilim_link_spec.specs.Mentions.{members_named, mentions_of, class_names, all_types}
@@ -17,13 +17,13 @@ use Rattle.kilim_class_descriptors.specs.Reading.{base_at, field_behind, field_a
 use Rattle.kilim_class_grammar.specs.Reader.{many}
 use Rattle.kilim_class_code.specs.opcodes.Reading.{target_at, zeros_at, range_at, table_at, count_at, pairs_at, lookup_at, wide_operands_at, wide_at, operands_at, instr_at, pair_at as opcodes_pair_at}
 use Rattle.kilim_class_code.specs.opcodes.Table.{rows, form_of as opcodes_form_of}
-use Rattle.kilim_link_spec.specs.Faults.{first_fault as fault_of}
+use Rattle.kilim_link_spec.specs.Faults.{handler_faults, first_fault as fault_of}
 use Rattle.kilim_theorems.specs.woven_files.form.Samples.{loop_program, loop_expected}
 
 pub loop_links : Linked (loop_expected ∷ []) Woven loop_program
-unfolding types_on_member params_in class_text world_of qualified instrs_from decoded instr_in frames_from program_of members_named mentions_of class_names all_types declared_twice class_missing is_circular circular member_missing left_out_parts left_out both_kinds field_kinds override_differs code_broken descriptor_broken super_kind is_class_name name_broken abstract_left problems_of link_faults first_fault targets_of is_place first_failing mid_target ends falls_off body_fault rows opcodes_form_of target_at zeros_at range_at table_at count_at opcodes_pair_at pairs_at lookup_at wide_operands_at wide_at operands_at instr_at descriptors_class_at base_at field_behind field_at param_at params_at result_at whole_field whole_method text_of has_its_code many
+unfolding types_on_member params_in class_text world_of qualified instrs_from decoded instr_in frames_from program_of members_named mentions_of class_names all_types declared_twice class_missing is_circular circular member_missing left_out_parts left_out both_kinds field_kinds override_differs code_broken descriptor_broken super_kind is_class_name name_broken abstract_left handler_faults problems_of link_faults first_fault targets_of is_place first_failing mid_target ends falls_off body_fault rows opcodes_form_of target_at zeros_at range_at table_at count_at opcodes_pair_at pairs_at lookup_at wide_operands_at wide_at operands_at instr_at descriptors_class_at base_at field_behind field_at param_at params_at result_at whole_field whole_method text_of has_its_code many
 loop_links = refl
 
 pub loop_has_no_fault : fault_of (loop_expected ∷ []) Woven ≡ None
-unfolding types_on_member params_in class_text world_of qualified instrs_from decoded instr_in frames_from program_of members_named mentions_of class_names all_types declared_twice class_missing is_circular circular member_missing left_out_parts left_out both_kinds field_kinds override_differs code_broken descriptor_broken super_kind is_class_name name_broken abstract_left problems_of link_faults first_fault targets_of is_place first_failing mid_target ends falls_off body_fault rows opcodes_form_of target_at zeros_at range_at table_at count_at opcodes_pair_at pairs_at lookup_at wide_operands_at wide_at operands_at instr_at descriptors_class_at base_at field_behind field_at param_at params_at result_at whole_field whole_method text_of has_its_code many
+unfolding types_on_member params_in class_text world_of qualified instrs_from decoded instr_in frames_from program_of members_named mentions_of class_names all_types declared_twice class_missing is_circular circular member_missing left_out_parts left_out both_kinds field_kinds override_differs code_broken descriptor_broken super_kind is_class_name name_broken abstract_left handler_faults problems_of link_faults first_fault targets_of is_place first_failing mid_target ends falls_off body_fault rows opcodes_form_of target_at zeros_at range_at table_at count_at opcodes_pair_at pairs_at lookup_at wide_operands_at wide_at operands_at instr_at descriptors_class_at base_at field_behind field_at param_at params_at result_at whole_field whole_method text_of has_its_code many
 loop_has_no_fault = refl
