@@ -48,7 +48,15 @@ impl<B: Cells + Drop> Turn<B> {
         requires { AreAllOf B.cells self passes.items }
         ensures { B.cells result ≡ map shows passes.items }
     {
-        let Turn { table } = self;
+        let Turn {
+            table,
+            waiting,
+            resting,
+            bell,
+        } = self;
+        drop(waiting);
+        drop(resting);
+        drop(bell);
         let mut seat = gather(&table.shared, passes);
         take_last(&table.shared, &mut seat);
         take_out(&table.shared, &mut seat, 0)

@@ -11,6 +11,7 @@ use crate::steps::{take_out, wait_for};
 use atomic_table::Badge;
 use std::mem;
 use std::sync::Wait;
+use std::sync::atomic::Ordering;
 use std::time::Duration;
 
 impl<B: Cells + Drop> Turn<B> {
@@ -24,24 +25,27 @@ impl<B: Cells + Drop> Turn<B> {
         ensures lent { lent_cells result ≡ B.cells result.value }
     {
         let mut seat = mem::replace(&mut pass.badge, Badge::blank()).into_seat();
-        wait_for(rt, &self.table.shared, &mut seat, pass.number);
+        wait_for(
+            rt,
+            &self.table.shared,
+            &self.waiting,
+            &mut seat,
+            pass.number,
+        );
         let value = take_out(&self.table.shared, &mut seat, pass.number);
         Held { value, seat }
     }
 
-    /// Waits a short while, or until somebody gives the turn back.
+    /// Waits a short while, or until it is rung.
     pub fn rest<R: Wait>(&self, rt: &R, pass: &mut Pass)
         requires { IsPassOf B.cells self.now pass.old }
         ensures { pass.new ≡ pass.old }
     {
         let _ = pass;
-        let shared = &self.table.shared;
-        let found = shared.peek(0);
-        shared.park_timeout(
-            rt,
-            0,
-            (found & 0xffff_ffff) as u32,
-            Duration::from_millis(1),
-        );
+        let heard = self.bell.load(Ordering::SeqCst);
+        let _ = self.resting.fetch_add(1, Ordering::SeqCst);
+        self.bell
+            .park_timeout(rt, (heard & 0xffff_ffff) as u32, Duration::from_millis(1));
+        let _ = self.resting.fetch_sub(1, Ordering::SeqCst);
     }
 }

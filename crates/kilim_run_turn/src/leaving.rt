@@ -7,7 +7,7 @@ use crate::cells::Cells;
 use crate::held::Held;
 use crate::lending::Turn;
 use crate::pass::Pass;
-use crate::steps::{post, put_in};
+use crate::steps::{post, put_in, wake_one};
 use std::marker::Brand;
 
 impl<B: Cells + Drop> Turn<B> {
@@ -24,5 +24,6 @@ impl<B: Cells + Drop> Turn<B> {
         post::<B, Brand>(shelf, &mut seat, pass.number, &value);
         put_in(shelf, &mut seat, pass.number, value);
         pass.badge = seat.into_badge();
+        wake_one(shelf, &self.waiting);
     }
 }

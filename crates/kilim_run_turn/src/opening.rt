@@ -14,6 +14,7 @@ use atomic_table::{Badge, Table};
 use std::alloc::Global;
 use std::marker::Brand;
 use std::snapshot::Snapshot;
+use std::sync::atomic::AtomicU64;
 
 // The first seat learns which table it is of.
 fn name<B: Cells, W: TableName>(shelf: &Shelf<B>, seat: &mut Chair<B>)
@@ -106,6 +107,12 @@ impl<B: Cells + Drop> Turn<B> {
             return Err(value);
         };
         let passes = fill(&table.shared, seat, passes, value, seats);
-        Ok((Turn { table }, passes))
+        let turn = Turn {
+            table,
+            waiting: AtomicU64::new(0),
+            resting: AtomicU64::new(0),
+            bell: AtomicU64::new(0),
+        };
+        Ok((turn, passes))
     }
 }

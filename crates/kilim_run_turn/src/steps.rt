@@ -9,12 +9,67 @@ ghost use Rattle.kilim_run_turn.specs.Shelves.{IsAt};
 use crate::cells::Cells;
 use crate::kept::{Chair, Kept, Shelf};
 use crate::plays::{Give, LayDown, NewCell, Post, Take, TakeIn, Tell};
+use std::hint::spin_loop;
 use std::sync::Wait;
+use std::sync::atomic::{AtomicU64, Ordering};
+
+// Who waits for the turn tries so often before it sleeps, and reads the word so often before each try.
+const TRIES: u32 = 16;
+
+const READS: u32 = 16;
+
+// Before a try: says that it is about to sleep, if it tried often.
+fn announce(waiting: &AtomicU64, tries: u32) {
+    if tries == TRIES {
+        let _ = waiting.fetch_add(1, Ordering::SeqCst);
+    }
+}
+
+// Behind the last try: says that it sleeps no more.
+fn retract(waiting: &AtomicU64, tries: u32) {
+    if tries >= TRIES {
+        let _ = waiting.fetch_sub(1, Ordering::SeqCst);
+    }
+}
+
+// Reads the word until it is free, for a moment.
+fn read_on<B: Cells>(shelf: &Shelf<B>)
+    requires { shelf.now.table_id.words ≡ 1 }
+{
+    for _ in 0..READS {
+        if shelf.peek(0) == 0 {
+            return;
+        }
+        spin_loop();
+    }
+}
+
+// Between two tries: reads the word until it is free, for a moment, or sleeps while it is what was found. How often it tried then.
+fn pause<B: Cells, R: Wait>(rt: &R, shelf: &Shelf<B>, found: u64, tries: u32) -> u32
+    requires { shelf.now.table_id.words ≡ 1 }
+{
+    if tries < TRIES {
+        read_on(shelf);
+        return tries + 1;
+    }
+    shelf.park(rt, 0, (found & 0xffff_ffff) as u32);
+    TRIES + 1
+}
+
+// Wakes one of those that wait for the turn, if any sleeps.
+pub(crate) fn wake_one<B: Cells>(shelf: &Shelf<B>, waiting: &AtomicU64)
+    requires { shelf.now.table_id.words ≡ 1 }
+{
+    if waiting.load(Ordering::SeqCst) > 0 {
+        shelf.wake_one(0);
+    }
+}
 
 // Waits until it has the turn.
 pub(crate) fn wait_for<B: Cells, R: Wait>(
     rt: &R,
     shelf: &Shelf<B>,
+    waiting: &AtomicU64,
     seat: &mut Chair<B>,
     number: usize,
 )
@@ -24,12 +79,15 @@ pub(crate) fn wait_for<B: Cells, R: Wait>(
     ensures at { seat.new.table_id ≡ seat.old.table_id }
     ensures inside { IsInside (Lies B.cells) seat.old.me seat.new.me }
 {
+    let mut tries = 0;
     for _ in rt.forever() {
+        announce(waiting, tries);
         let found = shelf.compare_exchange::<Take>(seat, 0, 0, number as u64 + 1);
         if found == 0 {
+            retract(waiting, tries);
             return;
         }
-        shelf.park(rt, 0, (found & 0xffff_ffff) as u32);
+        tries = pause(rt, shelf, found, tries);
     }
     unreachable!()
 }
@@ -78,5 +136,4 @@ pub(crate) fn put_in<B: Cells>(shelf: &Shelf<B>, seat: &mut Chair<B>, number: us
     let left = shelf.exchange(seat, 0, Some(Kept { value, note }));
     let None = left else { unreachable!() };
     shelf.store::<Give>(seat, 0, 0);
-    shelf.wake_all(0);
 }

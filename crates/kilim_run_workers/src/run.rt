@@ -117,6 +117,11 @@ impl<F: Fibers, K: Run> RunBoard<F, K> {
         self.board.lend(seat)
     }
 
+    /// How many fibers are ready. It is told so that somebody is woken, and no clause speaks of it.
+    pub fn ready(&self) -> usize {
+        self.board.ready.len()
+    }
+
     /// Takes back a fiber that rests from the seat that it is lent to.
     pub fn give_back(&mut self, seat: usize, fiber: F, waits: Option<Waits>)
         requires lent { cell_at (board_cells self.old) seat ≡ fiber_numbers F.task_of F.course_of fiber }

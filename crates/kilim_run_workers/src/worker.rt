@@ -21,6 +21,13 @@ use kilim_run_turn::{Pass, Turn};
 use kilim_units::NoMemory;
 use std::sync::Wait;
 
+// Wakes a worker that rests, where there is more to do than this one does next.
+fn call_if<F: Fibers, K: Run>(turn: &Turn<RunBoard<F, K>>, more: bool) {
+    if more {
+        turn.ring();
+    }
+}
+
 // Lends a fiber to the pass's seat.
 fn take_one<F: Fibers, K: Run, R: Wait>(
     rt: &R,
@@ -36,7 +43,9 @@ fn take_one<F: Fibers, K: Run, R: Wait>(
 {
     let mut held = turn.enter(rt, pass);
     let lent = held.value.lend(pass.seat());
+    let left = held.value.ready();
     turn.leave(pass, held);
+    call_if(turn, left >= 1);
     lent
 }
 
@@ -57,7 +66,9 @@ fn hand_back<F: Fibers, K: Run, R: Wait>(
 {
     let mut held = turn.enter(rt, pass);
     held.value.give_back(pass.seat(), fiber, waits);
+    let ready = held.value.ready();
     turn.leave(pass, held);
+    call_if(turn, ready >= 2);
 }
 
 // Stops the board, for want of memory.
@@ -93,7 +104,9 @@ fn act<F: Fibers, K: Run, R: Wait>(
 {
     let mut held = turn.enter(rt, pass);
     let acted = held.value.act(pass.seat(), fiber, wants);
+    let ready = held.value.ready();
     turn.leave(pass, held);
+    call_if(turn, ready >= 2);
     acted
 }
 
