@@ -1,5 +1,5 @@
 -- Each mailbox of a whole run has one history.
-use Rattle.std.proofs.Common.{◌≡◌, ℕ, zero, suc, ◌+◌, false, true, List, [], ◌∷◌, ◌++◌, Option, Some, None, refl, sym, ap, subst, ◌∙◌, append_assoc}
+use Rattle.std.proofs.Common.{◌≡◌, ℕ, ◌+◌, false, true, List, [], ◌∷◌, ◌++◌, Option, Some, None, refl, sym, ap, subst, ◌∙◌, append_assoc}
 use Rattle.std.specs.Prelude.{slice_get}
 use Rattle.kilim_program.specs.Program.{Program}
 use Rattle.kilim_program.specs.declared.names.BoxName.{BoxName}
@@ -7,34 +7,14 @@ use Rattle.kilim_run_journal.specs.declared.entry.Entry.{Entry}
 use Rattle.kilim_run_model.specs.State.{Setting, State, Thread}
 use Rattle.kilim_run_model.specs.Reach.{Liveness}
 use Rattle.kilim_run_model.specs.Runs.{Whole, settled, wait_entry, waits_at, waits_from}
-use Rattle.kilim_run_model.specs.Lone.{Lone, Next, Goes, Bounds, next_move}
-use Rattle.kilim_run_model.specs.Course.{next_action, next_or, next_within}
 use Rattle.kilim_run_model.specs.one_heap.Laws.{OneHeapIsMany}
 use Rattle.kilim_isolation_laws.specs.Laws.{IsRunOfAccepted}
 use Rattle.kilim_isolation_laws.specs.kept.Laws.{AcceptedIsKept}
 use Rattle.kilim_isolation_laws.specs.reached_objects.Laws.{AreLive}
-use Rattle.kilim_isolation_laws.proofs.NotYet.{NeverBounds, never_bounds}
+use Rattle.kilim_new_bounds.specs.Laws.{AcceptedBoundsAreNew}
 use Rattle.kilim_run_board.specs.Laws.{MailboxesAreThreads}
 use Rattle.kilim_run_board.specs.OneThread.{AreOneThread, Note, notes_of, notes_of_act}
-use Rattle.kilim_theorems.specs.mailbox_histories.Histories.{AcceptedBoundsAreNew, OneHistory}
-
--- ---- what is bounded is new: today nothing is
-
-module _ (set : Setting) (never : NeverBounds set) (t : ℕ) (box : BoxName) (most : ℕ) (after : Lone) where
-  none_or : (l : Lone) (x : Next) (later : Lone → Next) → next_move set t l ≡ x → ((k : Lone) → later k ≡ Bounds box most after → ⊥) → next_or x later ≡ Bounds box most after → ⊥
-  none_or l (Goes k) later is none e = none k e
-  none_or l x later is none e = never t l box most after (is ∙ e)
-
-  none_within : (n : ℕ) (l : Lone) → next_within set t n l ≡ Bounds box most after → ⊥
-  none_within zero l e = cc
-  none_within (suc n) l e = none_or l (next_move set t l) (next_within set t n) refl (none_within n) e
-
-  none_bounds : (l : Lone) → next_action set t l ≡ Bounds box most after → ⊥
-  unfolding next_action
-  none_bounds l e = none_within (suc set.limits.steps) l e
-
-pub bounds_are_new : AcceptedBoundsAreNew
-bounds_are_new set run journal s replay t c l at is box most after e = absurd (none_bounds set (never_bounds set run.keeps run.form) t box most after l e)
+use Rattle.kilim_theorems.specs.mailbox_histories.Histories.{OneHistory}
 
 -- ---- the lines of those who wait say nothing of a mailbox
 
@@ -73,7 +53,7 @@ none_live : (q : Program) → AreLive q stacks_alone
 unfolding stacks_alone
 none_live q = (λ id m at k there e. absurd (let z : false ≡ true = e in cc), λ id m at k there e. absurd (let z : false ≡ true = e in cc))
 
-pub one_history : AcceptedIsKept → OneHeapIsMany → MailboxesAreThreads → OneHistory
-one_history keep many threads set run journal whole box =
+pub one_history : AcceptedBoundsAreNew → AcceptedIsKept → OneHeapIsMany → MailboxesAreThreads → OneHistory
+one_history new keep many threads set run journal whole box =
     let moved = (many stacks_alone set run.main (keep set run stacks_alone (none_live set.program)) whole.acts).0 whole.last whole.replays in
-    subst AreOneThread (sym (of_acts box set journal whole)) (threads set whole.acts moved.0 box (bounds_are_new set run) moved.1)
+    subst AreOneThread (sym (of_acts box set journal whole)) (threads set whole.acts moved.0 box (new set run) moved.1)

@@ -1,0 +1,12 @@
+pub mod Slots
+pub mod Effects
+pub mod Pairs
+pub mod Rows
+pub mod Calls
+pub mod Table
+pub mod Frames
+pub mod Moves
+pub mod Shapes
+pub mod Threads
+pub mod Courses
+pub mod Runs
