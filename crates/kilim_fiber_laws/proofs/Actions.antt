@@ -1,5 +1,5 @@
 -- Where the machine is over right before an action, that is the next action of the thread of the course.
-use Rattle.std.proofs.Common.{◌≡◌, ℕ, ℤ, Bool, true, false, cond, List, [], ◌∷◌, Option, Some, None, refl, sym, ap, subst, ◌+◌, ◌<◌, inl, inr}
+use Rattle.std.proofs.Common.{◌≡◌, ℕ, ℤ, Bool, true, false, cond, List, [], ◌∷◌, Option, Some, None, refl, sym, ap, subst, ◌∙◌, ◌+◌, ◌<◌, inl, inr}
 use Rattle.std.proofs.lemmas.Bool.Decides.{leb_tells}
 use Rattle.std.specs.Prelude.{zero, suc, pos, negsuc, nat_le, nat_lt}
 use Rattle.std.proofs.lemmas.Option.{none-some, same_Some}
@@ -26,7 +26,8 @@ use Rattle.kilim_run_model.specs.State.{Alive, Ended, Setting, Thread, begun_on}
 use Rattle.kilim_fiber_spec.specs.lone.Law.{wanted}
 use Rattle.kilim_fiber_spec.specs.Acts.{Action, World}
 use Rattle.kilim_fiber_spec.specs.Acts as action
-use Rattle.kilim_fiber_laws.specs.receivers.states.Law.{StandsBefore, done_of}
+use Rattle.kilim_fiber_laws.proofs.receivers.states.Worlds.{wanted_same}
+use Rattle.kilim_fiber_laws.specs.receivers.states.Law.{StandsBefore, acts_of, done_of, wanted_in, world_at}
 
 -- ---- a take gives no name away before the message comes
 
@@ -199,10 +200,14 @@ next_within : (set : Setting) (t : ℕ) (l : Lone) → Within set.limits.steps (
 unfolding next_move
 next_within set t l = thread_within set t l l.thread
 
+left_in : (limit : ℕ) (a : Action) (v : World) → IsLeft limit v.done a → IsLeft limit (wanted_in a v).done a
+left_in limit (action.Ends why) v h = tt
+left_in limit a v h = h
+
 pub is_left : (set : Setting) (t : ℕ) (c : Course) (a : Action) (w : World) → StandsBefore set t c a w → IsLeft set.limits.steps w.done a
 is_left set t c a w before =
     subst (λ (n : ℕ). IsLeft set.limits.steps n a) (sym (ap (λ (z : World). z.done) before.world))
-    (left_of set.limits.steps (done_of before.here.thread) (next_move set t before.here) (next_within set t before.here) a before.after before.wants)
+    (left_in set.limits.steps a (world_at t before.here [] (acts_of c.deeds [])) (left_of set.limits.steps (done_of before.here.thread) (next_move set t before.here) (next_within set t before.here) a before.after before.wants))
 
 module _ (set : Setting) (t : ℕ) (c : Course) (last : Lone) (is : IsLone set t c last) where
   pub next_is : (a : Action) (w : World) → StandsBefore set t c a w → IsAction w.next a (next_action set t last)
@@ -211,4 +216,4 @@ module _ (set : Setting) (t : ℕ) (c : Course) (last : Lone) (is : IsLone set t
       let f = acting here.next (next_move set t here) (next_keeps set t here) a before.after before.wants in
       let quiet : Quiet set t last here = subst (λ (l : Lone). Quiet set t l here) (one_lone set t c before.of.last last before.of.is is) before.of.quiet in
       subst (λ (x : Next). IsAction w.next a x) (sym (action_is set t last here (next_move set t here) quiet refl f.1))
-      (subst (λ (n : ℕ). IsAction n a (next_move set t here)) (sym (ap (λ (z : World). z.next) before.world)) f.0)
+      (subst (λ (n : ℕ). IsAction n a (next_move set t here)) (sym (ap (λ (z : World). z.next) before.world ∙ wanted_same (λ (z : World). z.next) (λ v. refl) a (world_at t here [] (acts_of c.deeds [])))) f.0)

@@ -38,7 +38,8 @@ use Rattle.kilim_fiber_spec.specs.Acts as action
 use Rattle.kilim_fiber_spec.specs.Fibers.{Woven_state}
 use Rattle.kilim_fiber_spec.specs.Rooms.{IsWholeAt}
 use Rattle.kilim_fiber_laws.proofs.receivers.states.Along.{acts_on}
-use Rattle.kilim_fiber_laws.specs.receivers.states.Law.{StandsBefore}
+use Rattle.kilim_fiber_laws.proofs.receivers.states.Worlds.{wanted_same}
+use Rattle.kilim_fiber_laws.specs.receivers.states.Law.{StandsBefore, acts_of, world_at}
 
 -- null on top of both stacks
 null_like : (a g : Standing) → Like a g → Like (with_result (Some Null) a) (with_result (Some Null) g)
@@ -94,7 +95,7 @@ module _ (set : Setting) (W : Program) (marks : List (List Bool)) (served : CanS
 
   -- no other tree stands apart then
   alone : (a : Action) (y g : Standing) → (comes : ComesTo set W marks t from c.deeds done a y) → ApartKin y.aside g.aside → g.aside ≡ []
-  alone a y g comes kin = none g.aside (subst (λ (ks : List Apart). ApartKin ks g.aside) (sym comes.8 ∙ ap (λ (z : World). z.aside) (before a y comes).world) kin)
+  alone a y g comes kin = none g.aside (subst (λ (ks : List Apart). ApartKin ks g.aside) (sym comes.8 ∙ (ap (λ (z : World). z.aside) (before a y comes).world ∙ wanted_same (λ (z : World). z.aside) (λ v. refl) a (world_at t (before a y comes).here [] (acts_of c.deeds [])))) kin)
     where
       none : (ks : List Apart) → ApartKin [] ks → ks ≡ []
       none [] e = refl

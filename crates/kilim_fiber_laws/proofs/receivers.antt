@@ -1,3 +1,4 @@
+pub mod Landing
 pub mod Along
 pub mod Begins
 pub mod Chain

@@ -21,3 +21,4 @@ pub mod Whole
 pub mod Same
 pub mod Tally
 pub mod beginnings
+pub mod Uncaught

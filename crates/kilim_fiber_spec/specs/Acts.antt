@@ -4,11 +4,14 @@ use Rattle.std.specs.FinMap.{insert}
 use Rattle.kilim_run_state.specs.declared.cause.EndCause.{EndCause}
 use Rattle.kilim_run_state.specs.declared.cause.EndCause.TheVariants as cause
 use Rattle.kilim_program.specs.declared.names.BoxName.{BoxName}
+use Rattle.kilim_program.specs.declared.names.ClassId.{ClassId}
+use Rattle.kilim_program.specs.Program.{Program}
 use Rattle.kilim_run_state.specs.declared.value.Object.{Object}
 use Rattle.kilim_run_state.specs.declared.value.Token.{Token}
 use Rattle.kilim_program.specs.declared.value.Value.{Value}
 use Rattle.kilim_program.specs.declared.value.Value.TheVariants.{Int, Null, Ref, Box}
 use Rattle.kilim_run_state.specs.Machine.{Objects}
+use Rattle.kilim_run_state.specs.Objects.{new_object}
 use Rattle.kilim_run_machine.specs.Natives.{Native}
 use Rattle.kilim_run_machine.specs.Natives as native
 use Rattle.kilim_run_journal.specs.declared.entry.Act.{Act}
@@ -111,11 +114,6 @@ module _ {S : Type 0} (set : Setting) (w : World) (over : Over → S) where
     puts box n None = ending cause.Large
     puts box n (Some shape) = acting (Puts box n shape) (λ deed rest. put_by box shape n deed.act rest)
 
-    abbrev pub puts_value : BoxName → Value → S
-    puts_value box Null = ending cause.Null
-    puts_value box (Ref n) = puts box n (shape_of set.program w.heap n)
-    puts_value box v = over Lost
-
     -- of a put that waits others decide the number alone
     abbrev pub put_wait_by : BoxName → List Token → ℕ → Act → List Deed → S
     put_wait_by box shape n (Put b k s) rest = go (gave n (Put box k shape) rest) None
@@ -124,16 +122,6 @@ module _ {S : Type 0} (set : Setting) (w : World) (over : Over → S) where
     abbrev pub put_waits : BoxName → ℕ → Option (List Token) → S
     put_waits box n None = ending cause.Large
     put_waits box n (Some shape) = acting (PutWaits box n shape) (λ deed rest. put_wait_by box shape n deed.act rest)
-
-    abbrev pub waits_value : BoxName → Value → S
-    waits_value box Null = ending cause.Null
-    waits_value box (Ref n) = put_waits box n (shape_of set.program w.heap n)
-    waits_value box v = over Lost
-
-    -- a bound is at least 1
-    abbrev pub bounds : BoxName → ℤ → S
-    bounds box (pos (suc n)) = acting (Bounds box (suc n)) (λ deed rest. go (behind (Bound box (suc n)) rest) None)
-    bounds box n = ending cause.Size
 
     abbrev pub start_by : List Token → ℕ → Act → List Deed → S
     start_by shape n (Start t s) rest = go (gave n (Start t shape) rest) None
@@ -167,35 +155,70 @@ module _ {S : Type 0} (set : Setting) (w : World) (over : Over → S) where
     prints None = over Lost
     prints (Some t) = acting (Prints t) (λ deed rest. go (behind (Print (t ∷ [])) rest) None)
 
-    abbrev pub gives_arg : Option ℤ → S
-    gives_arg None = ending cause.Index
-    gives_arg (Some n) = go (counted w) (Some (Int n))
-
-    -- a built-in method does its work with its arguments; the receiver is the first of them
-    abbrev pub native_does : Native → List Value → S
-    native_does native.Execute (Ref n ∷ []) = go (counted w) None
-    native_does native.Start (Ref n ∷ []) = starts n (shape_of set.program w.heap n)
-    native_does native.Put (Box box ∷ message ∷ []) = puts_value box message
-    native_does native.PutWait (Box box ∷ message ∷ []) = waits_value box message
-    native_does native.Bound (Box box ∷ Int n ∷ []) = bounds box n
-    native_does native.Get (Box box ∷ []) = takes box
-    native_does native.Getnb (Box box ∷ []) = probes box
-    native_does native.Print (v ∷ []) = prints (printed v)
-    native_does native.Yield [] = go (counted w) None
-    native_does native.ArgCount [] = go (counted w) (Some (Int (narrowed (length set.limits.args))))
-    native_does native.Arg (Int i ∷ []) = gives_arg (arg_at set.limits.args i)
-    native_does n args = over Lost
-
-    abbrev pub asks : Option Native → List Value → S
-    asks None args = over Lost
-    asks (Some n) args = native_does n args
-
     -- a new object, a new mailbox
     abbrev pub makes : Object → World → S
     makes object after = go (record after { heap = insert after.heap w.next object; next = w.next + 1 }) (Some (Ref w.next))
 
     abbrev pub opens_box : World → S
     opens_box after = if nat_lt w.boxes box_limit then go (record after { boxes = w.boxes + 1 }) (Some (Box (record { task = w.task; number = w.boxes }))) else ending cause.Boxes
+
+    -- something may be wrong with a value of a built-in method: `raise` goes on with what is raised
+    module _ (raise : EndCause → S) where
+      abbrev pub puts_value : BoxName → Value → S
+      puts_value box Null = raise cause.Null
+      puts_value box (Ref n) = puts box n (shape_of set.program w.heap n)
+      puts_value box v = over Lost
+
+      abbrev pub waits_value : BoxName → Value → S
+      waits_value box Null = raise cause.Null
+      waits_value box (Ref n) = put_waits box n (shape_of set.program w.heap n)
+      waits_value box v = over Lost
+
+      -- a bound is at least 1
+      abbrev pub bounds : BoxName → ℤ → S
+      bounds box (pos (suc n)) = acting (Bounds box (suc n)) (λ deed rest. go (behind (Bound box (suc n)) rest) None)
+      bounds box n = raise cause.Size
+
+      abbrev pub gives_arg : Option ℤ → S
+      gives_arg None = raise cause.Index
+      gives_arg (Some n) = go (counted w) (Some (Int n))
+
+      -- a built-in method does its work with its arguments; the receiver is the first of them
+      abbrev pub native_does : Native → List Value → S
+      native_does native.Execute (Ref n ∷ []) = go (counted w) None
+      native_does native.Start (Ref n ∷ []) = starts n (shape_of set.program w.heap n)
+      native_does native.Put (Box box ∷ message ∷ []) = puts_value box message
+      native_does native.PutWait (Box box ∷ message ∷ []) = waits_value box message
+      native_does native.Bound (Box box ∷ Int n ∷ []) = bounds box n
+      native_does native.Get (Box box ∷ []) = takes box
+      native_does native.Getnb (Box box ∷ []) = probes box
+      native_does native.Print (v ∷ []) = prints (printed v)
+      native_does native.Yield [] = go (counted w) None
+      native_does native.ArgCount [] = go (counted w) (Some (Int (narrowed (length set.limits.args))))
+      native_does native.Arg (Int i ∷ []) = gives_arg (arg_at set.limits.args i)
+      native_does n args = over Lost
+
+      abbrev pub asks : Option Native → List Value → S
+      asks None args = over Lost
+      asks (Some n) args = native_does n args
+
+-- ---- exceptions: what is raised or thrown goes to the frames that are left, the top one first
+
+-- a new object is there
+abbrev pub with_new : World → Object → World
+with_new w object = record w { heap = insert w.heap w.next object; next = w.next + 1 }
+
+-- `w` has counted the instruction; `stands` goes on at frames.
+module _ {S F : Type 0} (set : Setting) (over : Over → S) (stands : F → List F → World → S) (w : World) (why : EndCause) where
+  -- where no frame is left, the task ends
+  abbrev pub thrown_to : World → List F → S
+  thrown_to after [] = ending set w over why
+  thrown_to after (f ∷ fs) = stands f fs after
+
+  -- an object of that class is made, but only where it is caught
+  abbrev pub raises : Program → (ClassId → List F) → Option ClassId → S
+  raises p left None = ending set w over why
+  raises p left (Some c) = thrown_to (with_new w (new_object p c)) (left c)
 
 -- ---- a put that waits
 

@@ -1,6 +1,7 @@
 -- A woven fiber on a heap of its own, with a list of deeds and a list of pauses.
 use Rattle.std.specs.Prelude.{ℕ, zero, suc, nat_lt, Bool, true, false, not, ◌&&◌, ◌==◌, if◌then◌else◌, pos, List, [], ◌∷◌, Option, Some, None, length, slice_get}
 use Rattle.std.specs.FinMap.{get}
+use Rattle.kilim_run_state.specs.declared.cause.EndCause.{EndCause}
 use Rattle.kilim_run_state.specs.declared.cause.EndCause.TheVariants as cause
 use Rattle.kilim_run_state.specs.declared.value.Token.{Token}
 use Rattle.kilim_run_state.specs.Shapes.{shape_of}
@@ -23,9 +24,11 @@ use Rattle.kilim_run_machine.specs.Natives as native
 use Rattle.kilim_run_machine.specs.Effect.{Effect, Goes, Makes, Opens, Calls, Asks, Returns, Raises, Throws, Ends, Stuck}
 use Rattle.kilim_run_machine.specs.Does.{does}
 use Rattle.kilim_run_machine.specs.Moves.{frame_limit, entered}
+use Rattle.kilim_run_machine.specs.Raising.{index_at, other_index, raised_class, thrown, unwound}
 use Rattle.kilim_program.specs.Lengths.{first_place}
 use Rattle.kilim_run_model.specs.State.{Setting, class_of}
-use Rattle.kilim_fiber_spec.specs.Acts.{Apart, World, Over, Astray, Lost, PutWaits, acting, apart, behind, counted, with_heap, ending, spending, makes, native_does, opens_box, together}
+use Rattle.kilim_fiber_spec.specs.Acts.{Apart, World, Over, Astray, Lost, PutWaits, acting, apart, behind, counted, with_heap, ending, spending, makes, native_does, opens_box, together, thrown_to, raises}
+pub use Rattle.kilim_fiber_spec.specs.Thread.{frame}
 use Rattle.kilim_fiber_spec.specs.Thread.{push, own_of}
 
 -- ---- the fiber
@@ -155,9 +158,6 @@ abbrev pub executes_on : Program → Objects → Value → Option MethodId
 executes_on p heap (Ref n) = get heap n >>= λ (object : Object). class_of object.class.base >>= λ c. execute_of p c
 executes_on p heap v = None
 
-abbrev pub frame : MethodId → ℕ → List Value → List Value → Activation
-frame m p l s = record { method = m; place = p; locals = l; stack = s }
-
 -- `set` is that of the unwoven program: acts are matched as there. W is the woven program, with its counted marks.
 module _ (set : Setting) (W : Program) (marks : List (List Bool)) where
   abbrev pub wfetch : MethodId → ℕ → Option (Instr × ℕ × Bool)
@@ -202,13 +202,20 @@ module _ (set : Setting) (W : Program) (marks : List (List Bool)) where
   abbrev pub wcalls : Bool → MethodId → List Value → List Activation → Fib → World → List ℕ → Woven_state
   wcalls counts m args b f w ps = if nat_lt (length b) frame_limit then enter m args b f (tick counts w) ps else ending set w WStop cause.Depth
 
+  abbrev pub wstands_at : Fib → List ℕ → Activation → List Activation → World → Woven_state
+  wstands_at f ps top b w = WRun top.method top.place top.locals top.stack b f w ps
+
+  -- something is wrong with a value of a built-in method, behind whose call the frames stand
+  abbrev pub wraised_behind : List Activation → Fib → World → List ℕ → EndCause → Woven_state
+  wraised_behind b f w ps why = raises set WStop (wstands_at f ps) (counted w) why W (λ c. unwound W c (Ref w.next) b) (raised_class W other_index why)
+
   -- the leaves
-  module _ (go : Fib → World → List ℕ → Option Value → Woven_state) where
+  module _ (go : Fib → World → List ℕ → Option Value → Woven_state) (raise : Fib → World → List ℕ → EndCause → Woven_state) where
     -- an empty mailbox is seen so many times
     abbrev pub gets : List Value → Value → Fib → World → List ℕ → Woven_state
     gets args box f w (suc k ∷ ps) = go (pausing box f) w (k ∷ ps) (Some Null)
-    gets args box f w (zero ∷ ps) = spending set w WStop (native_does set w WStop (λ after v. go (rewound f) after ps v) native.Get args)
-    gets args box f w [] = spending set w WStop (native_does set w WStop (λ after v. go (rewound f) after [] v) native.Get args)
+    gets args box f w (zero ∷ ps) = spending set w WStop (native_does set w WStop (λ after v. go (rewound f) after ps v) (raise f w ps) native.Get args)
+    gets args box f w [] = spending set w WStop (native_does set w WStop (λ after v. go (rewound f) after [] v) (raise f w []) native.Get args)
 
     abbrev pub getting : List Value → Fib → World → List ℕ → Woven_state
     getting (box ∷ []) f w ps = gets (box ∷ []) box f w ps
@@ -220,7 +227,7 @@ module _ (set : Setting) (W : Program) (marks : List (List Bool)) where
     waits_on box n (Some shape) f w k ps = go (pausing (Box box) f) (apart set n shape w) (k ∷ ps) None
 
     abbrev pub puts_now : List Value → Fib → World → List ℕ → Woven_state
-    puts_now args f w ps = spending set w WStop (native_does set w WStop (λ after v. go (rewound f) after ps v) native.PutWait args)
+    puts_now args f w ps = spending set w WStop (native_does set w WStop (λ after v. go (rewound f) after ps v) (raise f w ps) native.PutWait args)
 
     abbrev pub waits : List Value → Fib → World → List ℕ → Woven_state
     waits (Box box ∷ Ref n ∷ []) f w (suc k ∷ ps) = waits_on box n (shape_of set.program w.heap n) f w k ps
@@ -263,7 +270,7 @@ module _ (set : Setting) (W : Program) (marks : List (List Bool)) where
     handed_does native.Get (Some args) f w ps = getting args f w ps
     handed_does native.Yield (Some args) f w ps = yielding args f w ps
     handed_does native.PutWait (Some args) f w ps = putting args f w ps
-    handed_does n (Some args) f w ps = native_does set w WStop (λ after v. go f after ps v) n args
+    handed_does n (Some args) f w ps = native_does set w WStop (λ after v. go f after ps v) (raise f w ps) n args
 
     -- those that can pause get the fiber as their last argument
     abbrev pub wnative : Native → List Value → Fib → World → List ℕ → Woven_state
@@ -271,7 +278,7 @@ module _ (set : Setting) (W : Program) (marks : List (List Bool)) where
     wnative native.Yield args f w ps = handed_does native.Yield (without_fiber args) f w ps
     wnative native.PutWait args f w ps = handed_does native.PutWait (without_fiber args) f w ps
     wnative native.Execute args f w ps = handed_does native.Execute (without_fiber args) f w ps
-    wnative n args f w ps = native_does set w WStop (λ after v. go f after ps v) n args
+    wnative n args f w ps = native_does set w WStop (λ after v. go f after ps v) (raise f w ps) n args
 
     abbrev pub wnatives : Option Native → List Value → Fib → World → List ℕ → Woven_state
     wnatives None args f w ps = WStop Lost
@@ -281,27 +288,29 @@ module _ (set : Setting) (W : Program) (marks : List (List Bool)) where
     wasks (Some member) n args f w ps = member_does (WStop Lost) (λ f2 v. go f2 w ps v) member args f
     wasks None n args f w ps = wnatives n args f w ps
 
-  abbrev pub weffect : Bool → Effect → MethodId → List Activation → Fib → World → List ℕ → Woven_state
-  weffect counts (Goes p l s heap) m b f w ps = WRun m p l s b f (tick counts (with_heap w heap)) ps
-  weffect counts (Makes object p l s heap) m b f w ps = makes set w WStop (λ after v. WRun m p l (push v s) b f after ps) object (tick counts (with_heap w heap))
-  weffect counts (Opens p l s heap) m b f w ps = opens_box set (with_heap w heap) WStop (λ after v. WRun m p l (push v s) b f after ps) (tick counts (with_heap w heap))
-  weffect counts (Calls c args p l s heap) m b f w ps = wcalls counts c args (frame m p l s ∷ b) f (with_heap w heap) ps
-  weffect counts (Asks c args p l s heap) m b f w ps = wasks (λ f2 after rest v. WRun m p l (push v s) b f2 after rest) (member_of W c) (native_of W c) args f (with_heap w heap) ps
-  weffect counts (Returns v heap) m b f w ps = wreturns counts v b f (with_heap w heap) ps
-  weffect counts (Raises cause) m b f w ps = ending set w WStop cause
-  weffect counts (Throws object class cause) m b f w ps = ending set w WStop cause
-  weffect counts (Ends cause) m b f w ps = ending set w WStop cause
-  weffect counts Stuck m b f w ps = WStop Lost
+  -- `top` is the top frame
+  abbrev pub weffect : Bool → Effect → Activation → List Activation → Fib → World → List ℕ → Woven_state
+  weffect counts (Goes p l s heap) top b f w ps = WRun top.method p l s b f (tick counts (with_heap w heap)) ps
+  weffect counts (Makes object p l s heap) top b f w ps = makes set w WStop (λ after v. WRun top.method p l (push v s) b f after ps) object (tick counts (with_heap w heap))
+  weffect counts (Opens p l s heap) top b f w ps = opens_box set (with_heap w heap) WStop (λ after v. WRun top.method p l (push v s) b f after ps) (tick counts (with_heap w heap))
+  weffect counts (Calls c args p l s heap) top b f w ps = wcalls counts c args (frame top.method p l s ∷ b) f (with_heap w heap) ps
+  weffect counts (Asks c args p l s heap) top b f w ps =
+      wasks (λ f2 after rest v. WRun top.method p l (push v s) b f2 after rest) (wraised_behind (frame top.method p l s ∷ b)) (member_of W c) (native_of W c) args f (with_heap w heap) ps
+  weffect counts (Returns v heap) top b f w ps = wreturns counts v b f (with_heap w heap) ps
+  weffect counts (Raises why) top b f w ps = raises set WStop (wstands_at f ps) (tick counts w) why W (λ c. thrown W c (Ref w.next) top b) (raised_class W (index_at W top) why)
+  weffect counts (Throws n c why) top b f w ps = thrown_to set WStop (wstands_at f ps) (tick counts w) why (tick counts w) (thrown W c (Ref n) top b)
+  weffect counts (Ends why) top b f w ps = ending set w WStop why
+  weffect counts Stuck top b f w ps = WStop Lost
 
   abbrev pub spending_if : Bool → World → Woven_state → Woven_state
   spending_if true w go = spending set w WStop go
   spending_if false w go = go
 
-  abbrev pub wfound : Option (Instr × ℕ × Bool) → MethodId → List Value → List Value → List Activation → Fib → World → List ℕ → Woven_state
-  wfound None m l s b f w ps = WStop Lost
-  wfound (Some i) m l s b f w ps =
+  abbrev pub wfound : Option (Instr × ℕ × Bool) → Activation → List Activation → Fib → World → List ℕ → Woven_state
+  wfound None top b f w ps = WStop Lost
+  wfound (Some i) top b f w ps =
       let counts = i.2 && not (is_rewinding f) in
-      spending_if counts w (weffect counts (does W (own_of W m) i.0 i.1 l s w.heap) m b f w ps)
+      spending_if counts w (weffect counts (does W (own_of W top.method) i.0 i.1 top.locals top.stack w.heap) top b f w ps)
 
   abbrev pub wresumes : Option MethodId → Fib → World → List ℕ → Woven_state
   wresumes None f w ps = WStop Lost
@@ -309,7 +318,7 @@ module _ (set : Setting) (W : Program) (marks : List (List Bool)) where
 
   -- one microstep
   abbrev pub wstep : Woven_state → Woven_state
-  wstep (WRun m p l s b f w ps) = wfound (wfetch m p) m l s b f w ps
+  wstep (WRun m p l s b f w ps) = wfound (wfetch m p) (frame m p l s) b f w ps
   wstep (Resting f w ps) = wresumes (executes_on W w.heap (first_receiver f)) f w ps
   wstep (WStop over) = WStop over
 

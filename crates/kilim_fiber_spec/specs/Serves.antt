@@ -24,6 +24,7 @@ use Rattle.kilim_type_sound.specs.Fits.{AreThere, IsThere}
 use Rattle.kilim_run_interp.specs.Step.{stack_limit}
 use Rattle.kilim_run_model.specs.State.{Setting}
 use Rattle.kilim_weave_spec.specs.Woven.{moved_instr, pausable_callee}
+use Rattle.kilim_run_machine.specs.Raising.{NoTables}
 use Rattle.kilim_fiber_spec.specs.Acts.{World, Over, Lost, together, Apart}
 use Rattle.kilim_fiber_spec.specs.Thread.{fetch, own_of, self_of, Frame, Thread, Run, Stop, step, steps}
 use Rattle.kilim_fiber_spec.specs.Fibers.{Fib, member_of, Woven_state, WRun, Resting, WStop, wsteps}
@@ -103,6 +104,8 @@ module _ (set : Setting) (W : Program) (marks : List (List Bool)) (form : Forms 
     pub same_natives : (c : MethodId) → member_of W c ≡ None → native_of W c ≡ native_of set.program c
     -- a method that isn't pausable begins alike
     pub same_slots : (c : MethodId) → is_pausable set.program c ≡ false → slots_in (method_at W c) ≡ slots_in (method_at set.program c)
+    -- no method has an exception table, in neither program
+    pub none_catches : NoTables set.program × NoTables W
     -- `execute` of the main class
     pub begins : execute_of W set.main ≡ execute_of set.program set.main
     pub begins_alike : (c : MethodId) (a : Method) → execute_of set.program set.main ≡ Some c → method_at set.program c ≡ Some a → (b : Method) × (method_at W c ≡ Some b) × (b.built_in ≡ a.built_in) × (a.pausable ≡ true)

@@ -1,9 +1,11 @@
 -- A thread on a heap of its own, with a list of deeds. Beside each frame stands the receiver with which it began, which no
 -- step reads.
 use Rattle.std.specs.Prelude.{ℕ, zero, suc, nat_lt, false, if◌then◌else◌, List, [], ◌∷◌, Option, Some, None, length}
+use Rattle.kilim_run_state.specs.declared.cause.EndCause.{EndCause}
 use Rattle.kilim_run_state.specs.declared.cause.EndCause.TheVariants as cause
 use Rattle.kilim_program.specs.declared.class.Method.{Method}
 use Rattle.kilim_program.specs.declared.instr.Instr.{Instr}
+use Rattle.kilim_program.specs.declared.names.ClassId.{ClassId}
 use Rattle.kilim_program.specs.declared.names.MethodId.{MethodId}
 use Rattle.kilim_program.specs.declared.ty.Qualifier.TheVariants.{Safe}
 use Rattle.kilim_program.specs.declared.value.Value.{Value}
@@ -17,7 +19,9 @@ use Rattle.kilim_run_machine.specs.Does.{does}
 use Rattle.kilim_run_machine.specs.Moves.{frame_limit, entered}
 use Rattle.kilim_program.specs.Lengths.{fetched}
 use Rattle.kilim_run_model.specs.State.{Setting}
-use Rattle.kilim_fiber_spec.specs.Acts.{World, Over, Lost, counted, with_heap, ending, spending, makes, opens_box, asks}
+use Rattle.kilim_run_machine.specs.Raising.{call_in, caught_behind, caught_in, index_at, other_index, raised_class}
+use Rattle.kilim_run_state.specs.Machine.{Activation}
+use Rattle.kilim_fiber_spec.specs.Acts.{World, Over, Lost, counted, with_heap, ending, spending, makes, opens_box, asks, thrown_to, raises}
 
 -- the instruction at a place of a method, and the place behind it
 abbrev pub code_in : Option Method → ℕ → Option (Instr × ℕ)
@@ -80,6 +84,23 @@ self_in (Some method) args = if method.is_static then Null else first_of args
 abbrev pub self_of : Program → MethodId → List Value → Value
 self_of program m args = self_in (method_at program m) args
 
+abbrev pub frame : MethodId → ℕ → List Value → List Value → Activation
+frame m p l s = record { method = m; place = p; locals = l; stack = s }
+
+-- ---- the frames that are left where an object is thrown: those of kilim_run_machine, each with its receiver
+
+abbrev pub or_left : Value → Option Activation → (rest left : List Frame) → List Frame
+or_left x None rest left = left
+or_left x (Some a) rest left = At a.method a.place a.locals a.stack x ∷ rest
+
+abbrev pub left_behind : Program → ClassId → Value → List Frame → List Frame
+left_behind p c v [] = []
+left_behind p c v (At m q l s x ∷ b) = or_left x (caught_behind p c v (frame m q l s) (call_in (method_at p m) q)) b (left_behind p c v b)
+
+-- where the top frame, which began with `x`, stands at the instruction that throws
+abbrev pub left_at : Program → ClassId → Value → Activation → Value → List Frame → List Frame
+left_at p c v top x b = or_left x (caught_in p c v top top.place (method_at p top.method)) b (left_behind p c v b)
+
 module _ (set : Setting) where
   -- `execute` begins behind the constructor of task 0, or where it is the built-in one, the task is done
   abbrev pub begins_in : MethodId → ℕ → World → World → Option Method → Thread
@@ -114,25 +135,33 @@ module _ (set : Setting) where
   abbrev pub calls : MethodId → List Value → List Frame → World → Thread
   calls m args b w = if nat_lt (length b) frame_limit then Run m 0 (entered set.program m args).locals [] (self_of set.program m args) b (counted w) else ending set w Stop cause.Depth
 
-  -- The world is that before the instruction, but for the heap.
-  abbrev pub effect_does : Effect → MethodId → Value → List Frame → World → Thread
-  effect_does (Goes p l s heap) m x b w = Run m p l s x b (counted (with_heap w heap))
-  effect_does (Makes object p l s heap) m x b w = makes set w Stop (λ after v. Run m p l (push v s) x b after) object (counted (with_heap w heap))
-  effect_does (Opens p l s heap) m x b w = opens_box set (with_heap w heap) Stop (λ after v. Run m p l (push v s) x b after) (counted (with_heap w heap))
-  effect_does (Calls c args p l s heap) m x b w = calls c args (At m p l s x ∷ b) (with_heap w heap)
-  effect_does (Asks c args p l s heap) m x b w = asks set (with_heap w heap) Stop (λ after v. Run m p l (push v s) x b after) (native_of set.program c) args
-  effect_does (Returns v heap) m x b w = returns v b (with_heap w heap)
-  effect_does (Raises cause) m x b w = ending set w Stop cause
-  effect_does (Throws object class cause) m x b w = ending set w Stop cause
-  effect_does (Ends cause) m x b w = ending set w Stop cause
-  effect_does Stuck m x b w = Stop Lost
+  abbrev pub stands_at : Frame → List Frame → World → Thread
+  stands_at (At m p l s x) b w = Run m p l s x b w
 
-  abbrev pub found_does : Option (Instr × ℕ) → MethodId → List Value → List Value → Value → List Frame → World → Thread
-  found_does None m l s x b w = Stop Lost
-  found_does (Some i) m l s x b w = effect_does (does set.program (own_of set.program m) i.0 i.1 l s w.heap) m x b w
+  -- something is wrong with a value of a built-in method, behind whose call the frames stand
+  abbrev pub raised_behind : List Frame → World → EndCause → Thread
+  raised_behind b w why = raises set Stop stands_at (counted w) why set.program (λ c. left_behind set.program c (Ref w.next) b) (raised_class set.program other_index why)
+
+  -- `top` is the top frame and w the world before the instruction, but for the heap.
+  abbrev pub effect_does : Effect → Activation → Value → List Frame → World → Thread
+  effect_does (Goes p l s heap) top x b w = Run top.method p l s x b (counted (with_heap w heap))
+  effect_does (Makes object p l s heap) top x b w = makes set w Stop (λ after v. Run top.method p l (push v s) x b after) object (counted (with_heap w heap))
+  effect_does (Opens p l s heap) top x b w = opens_box set (with_heap w heap) Stop (λ after v. Run top.method p l (push v s) x b after) (counted (with_heap w heap))
+  effect_does (Calls c args p l s heap) top x b w = calls c args (At top.method p l s x ∷ b) (with_heap w heap)
+  effect_does (Asks c args p l s heap) top x b w =
+      asks set (with_heap w heap) Stop (λ after v. Run top.method p l (push v s) x b after) (raised_behind (At top.method p l s x ∷ b) (with_heap w heap)) (native_of set.program c) args
+  effect_does (Returns v heap) top x b w = returns v b (with_heap w heap)
+  effect_does (Raises why) top x b w = raises set Stop stands_at (counted w) why set.program (λ c. left_at set.program c (Ref w.next) top x b) (raised_class set.program (index_at set.program top) why)
+  effect_does (Throws n c why) top x b w = thrown_to set Stop stands_at (counted w) why (counted w) (left_at set.program c (Ref n) top x b)
+  effect_does (Ends why) top x b w = ending set w Stop why
+  effect_does Stuck top x b w = Stop Lost
+
+  abbrev pub found_does : Option (Instr × ℕ) → Activation → Value → List Frame → World → Thread
+  found_does None top x b w = Stop Lost
+  found_does (Some i) top x b w = effect_does (does set.program (own_of set.program top.method) i.0 i.1 top.locals top.stack w.heap) top x b w
 
   abbrev pub step : Thread → Thread
-  step (Run m p l s x b w) = spending set w Stop (found_does (fetch set.program m p) m l s x b w)
+  step (Run m p l s x b w) = spending set w Stop (found_does (fetch set.program m p) (frame m p l s) x b w)
   step (Stop over) = Stop over
 
   abbrev pub steps : ℕ → Thread → Thread

@@ -135,6 +135,6 @@ module _ (set : Setting) (k : ℕ) (aside : List Apart) (here : Lone) (c : Cours
   next_on next.Stands e ds as1 t a = over set Lost t a
 
 pub goes_on : CoursesGoOn
-goes_on set none (Run m p l s x b w) is =
-    next_on set w.task w.aside (lone_at m p l s b w) is.0 is.1 is.2 is.3 (next_move set w.task (lone_at m p l s b w)) refl w.deeds w.acts (step set (Run m p l s x b w)) (steps set none m p l s x b w)
-goes_on set none (Stop o) is = tt
+goes_on set (Run m p l s x b w) is =
+    next_on set w.task w.aside (lone_at m p l s b w) is.0 is.1 is.2 is.3 (next_move set w.task (lone_at m p l s b w)) refl w.deeds w.acts (step set (Run m p l s x b w)) (steps set m p l s x b w)
+goes_on set (Stop o) is = tt

@@ -29,7 +29,6 @@ use Rattle.kilim_type_sound.proofs.Walk.{stands_at}
 use Rattle.kilim_type_sound.specs.Sound.{CallFits, EffectFits, argument_types}
 use Rattle.kilim_type_sound.specs.Fits.{AreThere, Classes, ContentFits, HeapFits, IsThere, Typing, Wanted, has_objects, has_type, have_types, is_made, refers}
 use Rattle.kilim_run_state.specs.declared.value.Object.{Object as HeapObject}
-use Rattle.kilim_run_machine.specs.Raising.{NoTables}
 use Rattle.kilim_run_machine.specs.Does.{does}
 use Rattle.kilim_run_machine.specs.Effect.{Calls, Effect, Stuck}
 use Rattle.kilim_program.specs.Members.{named_type}
@@ -56,7 +55,7 @@ use Rattle.kilim_fiber_spec.specs.Acts.{Lost, World, asks, with_heap}
 use Rattle.kilim_fiber_spec.specs.Links.{Forms}
 use Rattle.kilim_fiber_spec.specs.Rows.{Clean, Receives, OldHeap, is_old_base}
 use Rattle.kilim_fiber_spec.specs.Serves.{From, Known}
-use Rattle.kilim_fiber_spec.specs.Thread.{Frame, Run, Stop, Thread, code_in, fetch, own_in, own_of, push, step, steps}
+use Rattle.kilim_fiber_spec.specs.Thread.{Frame, Run, Stop, Thread, code_in, fetch, own_in, own_of, push, step, steps, At, raised_behind}
 
 -- ---- what stacks name is there
 
@@ -158,9 +157,9 @@ steps_last : (set : Setting) (n : ℕ) (t : Thread) → steps set n (step set t)
 steps_last set zero t = refl
 steps_last set (suc n) t = steps_last set n (step set t)
 
-all_of_course : (set : Setting) → NoTables set.program → (n : ℕ) (t : Thread) → IsOfCourse set t → IsOfCourse set (steps set n t)
-all_of_course set none zero t is = is
-all_of_course set none (suc n) t is = all_of_course set none n (step set t) (goes_on set none t is)
+all_of_course : (set : Setting) (n : ℕ) (t : Thread) → IsOfCourse set t → IsOfCourse set (steps set n t)
+all_of_course set zero t is = is
+all_of_course set (suc n) t is = all_of_course set n (step set t) (goes_on set t is)
 
 all_few : (set : Setting) (n : ℕ) (t : Thread) → HasFew t → HasFew (steps set n t)
 all_few set zero t few = few
@@ -223,7 +222,7 @@ module _ (set : Setting) (typing : Typing) (wanted : Wanted) (live : Liveness) (
 
   module _ (W : Program) (marks : List (List Bool)) (form : Forms set W marks) (first : Thread) (begins : IsOfCourse set first) (few : HasFew first) (stands : first ≢ Stop Lost) (rest : Rest set W marks form (From set first)) where
     at_all : (t : Thread) → From set first t → IsOfCourse set t
-    at_all t f = subst (λ (z : Thread). IsOfCourse set z) f.1 (all_of_course set is.keeps.handlers f.0 first begins)
+    at_all t f = subst (λ (z : Thread). IsOfCourse set z) f.1 (all_of_course set f.0 first begins)
 
     few_at : (t : Thread) → From set first t → HasFew t
     few_at t f = subst HasFew f.1 (all_few set f.0 first few)
@@ -237,7 +236,7 @@ module _ (set : Setting) (typing : Typing) (wanted : Wanted) (live : Liveness) (
         let k = standing m p l s x b w (at_all (Run m p l s x b w) f) in
         let e = executes set.program is.keeps is.form set.main main execute.0 execute.1 in
         step_not set execute.0 e.method execute.1 e.there m p k.there.1 k.there.0 l s x b w k.there.2 (k.sound k.there.0 k.there.1 k.there.2)
-        (λ c args q l2 s2 heap d. not_lost (asks set (with_heap w heap) Stop (λ after v. Run m q l2 (push v s2) x b after) (native_of set.program c) args) (rest.answers m p k.there.1 q k.there.0 l s l2 s2 args x b w heap c f k.there.2 d))
+        (λ c args q l2 s2 heap d. not_lost (asks set (with_heap w heap) Stop (λ after v. Run m q l2 (push v s2) x b after) (raised_behind set (At m q l2 s2 x ∷ b) (with_heap w heap)) (native_of set.program c) args) (rest.answers m p k.there.1 q k.there.0 l s l2 s2 args x b w heap c f k.there.2 d))
 
     none_lost : (n : ℕ) → is_lost (steps set n first) ≡ false
     none_lost zero = not_lost first stands

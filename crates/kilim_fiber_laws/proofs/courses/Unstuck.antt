@@ -11,16 +11,20 @@ use Rattle.kilim_program.specs.declared.value.Value.TheVariants.{Box, Ref}
 use Rattle.kilim_program.specs.Names.{method_at}
 use Rattle.kilim_run_machine.specs.Does.{does}
 use Rattle.kilim_run_machine.specs.Effect.{Asks, Calls, Effect, Ends, Goes, Makes, Opens, Raises, Throws, Returns, Stuck}
-use Rattle.kilim_run_state.specs.Machine.{Objects}
+use Rattle.kilim_run_state.specs.Machine.{Activation, Objects}
 use Rattle.kilim_program.specs.Members.{execute_of}
 use Rattle.kilim_run_machine.specs.Moves.{entered, frame_limit}
 use Rattle.kilim_run_machine.specs.Natives.{native_of}
 use Rattle.kilim_run_model.specs.Lone.{box_limit}
 use Rattle.kilim_run_model.specs.State.{Setting}
 use Rattle.kilim_run_model.specs.declared.deed.Deed.{Deed}
-use Rattle.kilim_fiber_spec.specs.Acts.{Astray, Finished, Lost, Over, Wants, World, asks, counted, ending, last, opens_box, with_heap}
+use Rattle.kilim_fiber_spec.specs.Acts.{Astray, Finished, Lost, Over, Wants, World, asks, counted, ending, last, opens_box, with_heap, with_new}
 use Rattle.kilim_fiber_spec.specs.Acts as action
-use Rattle.kilim_fiber_spec.specs.Thread.{At, Frame, Run, Stop, Thread, begins, begins_in, calls, effect_does, fetch, finishes, found_does, own_of, push, returns, self_of, step}
+use Rattle.kilim_fiber_spec.proofs.lone.Left.{raises_has, thrown_has}
+use Rattle.kilim_fiber_spec.specs.Fibers.{frame}
+use Rattle.kilim_run_machine.specs.Raising.{index_at, raised_class}
+use Rattle.kilim_run_state.specs.Objects.{new_object}
+use Rattle.kilim_fiber_spec.specs.Thread.{At, Frame, Run, Stop, Thread, begins, begins_in, calls, effect_does, fetch, finishes, found_does, own_of, push, returns, self_of, step, left_at, raised_behind, stands_at}
 
 abbrev pub is_lost : Thread → Bool
 is_lost (Stop Lost) = true
@@ -72,25 +76,29 @@ module _ (set : Setting) where
     returned v [] w = finished w w.kept
     returned v (At m p l s x ∷ b) w = refl
 
-    effect_not : (e : Effect) (m : MethodId) (x : Value) (b : List Frame) (w : World) → e ≢ Stuck
-        → ((c : MethodId) (args : List Value) (q : ℕ) (l2 s2 : List Value) (heap : Objects) → e ≡ Asks c args q l2 s2 heap → is_lost (asks set (with_heap w heap) Stop (λ after v. Run m q l2 (push v s2) x b after) (native_of set.program c) args) ≡ false)
-        → is_lost (effect_does set e m x b w) ≡ false
-    effect_not (Goes p l s heap) m x b w n a = refl
-    effect_not (Makes object p l s heap) m x b w n a = refl
-    effect_not (Opens p l s heap) m x b w n a = opened m p l s x b (with_heap w heap) (counted (with_heap w heap))
-    effect_not (Calls c args p l s heap) m x b w n a = called c args (At m p l s x ∷ b) (with_heap w heap)
-    effect_not (Asks c args p l s heap) m x b w n a = a c args p l s heap refl
-    effect_not (Returns v heap) m x b w n a = returned v b (with_heap w heap)
-    effect_not (Raises why) m x b w n a = ended w why
-    effect_not (Throws object class why) m x b w n a = ended w why
-    effect_not (Ends why) m x b w n a = ended w why
-    effect_not Stuck m x b w n a = absurd (n refl)
+    stands : (f : Frame) (fs : List Frame) (w : World) → is_lost (stands_at set f fs w) ≡ false
+    stands (At m p l s x) fs w = refl
+
+    effect_not : (e : Effect) (top : Activation) (x : Value) (b : List Frame) (w : World) → e ≢ Stuck
+        → ((c : MethodId) (args : List Value) (q : ℕ) (l2 s2 : List Value) (heap : Objects) → e ≡ Asks c args q l2 s2 heap → is_lost (asks set (with_heap w heap) Stop (λ after v. Run top.method q l2 (push v s2) x b after) (raised_behind set (At top.method q l2 s2 x ∷ b) (with_heap w heap)) (native_of set.program c) args) ≡ false)
+        → is_lost (effect_does set e top x b w) ≡ false
+    effect_not (Goes p l s heap) top x b w n a = refl
+    effect_not (Makes object p l s heap) top x b w n a = refl
+    effect_not (Opens p l s heap) top x b w n a = opened top.method p l s x b (with_heap w heap) (counted (with_heap w heap))
+    effect_not (Calls c args p l s heap) top x b w n a = called c args (At top.method p l s x ∷ b) (with_heap w heap)
+    effect_not (Asks c args p l s heap) top x b w n a = a c args p l s heap refl
+    effect_not (Returns v heap) top x b w n a = returned v b (with_heap w heap)
+    effect_not (Raises why) top x b w n a =
+        raises_has set (λ t. is_lost t ≡ false) (counted w) why (ended (counted w) why) set.program (λ c. left_at set.program c (Ref w.next) top x b) (raised_class set.program (index_at set.program top) why) (λ c f fs e. stands f fs (with_new (counted w) (new_object set.program c)))
+    effect_not (Throws k c why) top x b w n a = thrown_has set (λ t. is_lost t ≡ false) (counted w) why (ended (counted w) why) (counted w) (left_at set.program c (Ref k) top x b) (λ f fs e. stands f fs (counted w))
+    effect_not (Ends why) top x b w n a = ended w why
+    effect_not Stuck top x b w n a = absurd (n refl)
 
     pub step_not : (m : MethodId) (p to : ℕ) (i : Instr) (l s : List Value) (x : Value) (b : List Frame) (w : World) → fetch set.program m p ≡ Some (i, to) → does set.program (own_of set.program m) i to l s w.heap ≢ Stuck
-        → ((c : MethodId) (args : List Value) (q : ℕ) (l2 s2 : List Value) (heap : Objects) → does set.program (own_of set.program m) i to l s w.heap ≡ Asks c args q l2 s2 heap → is_lost (asks set (with_heap w heap) Stop (λ after v. Run m q l2 (push v s2) x b after) (native_of set.program c) args) ≡ false)
+        → ((c : MethodId) (args : List Value) (q : ℕ) (l2 s2 : List Value) (heap : Objects) → does set.program (own_of set.program m) i to l s w.heap ≡ Asks c args q l2 s2 heap → is_lost (asks set (with_heap w heap) Stop (λ after v. Run m q l2 (push v s2) x b after) (raised_behind set (At m q l2 s2 x ∷ b) (with_heap w heap)) (native_of set.program c) args) ≡ false)
         → is_lost (step set (Run m p l s x b w)) ≡ false
     step_not m p to i l s x b w at n a = by (nat_le set.limits.steps w.done)
       where
-        by : (z : Bool) → is_lost (if z then ending set w Stop cause.Spent else found_does set (fetch set.program m p) m l s x b w) ≡ false
+        by : (z : Bool) → is_lost (if z then ending set w Stop cause.Spent else found_does set (fetch set.program m p) (frame m p l s) x b w) ≡ false
         by true = ended w cause.Spent
-        by false = subst (λ (o : Option (Instr × ℕ)). is_lost (found_does set o m l s x b w) ≡ false) (sym at) (effect_not (does set.program (own_of set.program m) i to l s w.heap) m x b w n a)
+        by false = subst (λ (o : Option (Instr × ℕ)). is_lost (found_does set o (frame m p l s) x b w) ≡ false) (sym at) (effect_not (does set.program (own_of set.program m) i to l s w.heap) (frame m p l s) x b w n a)

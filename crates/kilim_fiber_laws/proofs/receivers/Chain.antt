@@ -140,5 +140,5 @@ module _ (set : Setting) (run : IsRunOfAccepted set) where
 
   pub step_well : (of : Classes) (t : Thread) → WellAs of t → WellFurther of (step set t)
   step_well of (Run m p l s x b w) is =
-      next_on of w.task w.aside (lone_at m p l s b w) is (next_move set w.task (lone_at m p l s b w)) refl w.deeds w.acts (step set (Run m p l s x b w)) (steps set run.keeps.handlers m p l s x b w)
+      next_on of w.task w.aside (lone_at m p l s b w) is (next_move set w.task (lone_at m p l s b w)) refl w.deeds w.acts (step set (Run m p l s x b w)) (steps set m p l s x b w)
   step_well of (Stop o) is = (of, (λ n c k. k), tt)

@@ -1,11 +1,13 @@
--- What an instruction does to the heap: it loses no object.
+-- What an instruction does to the heap: it loses no object. And by what causes it raises, throws and ends.
 use Rattle.std.proofs.Common.{◌≡◌, ◌≢◌, ◌⊎◌, inl, inr, cond, ℕ, zero, suc, Bool, true, false, eqb, ℤ, pos, negsuc, List, [], ◌∷◌, length, Option, Some, None, refl, sym, ap, ◌∙◌}
 use Rattle.std.specs.Prelude.{codes, reverse, slice_get, nat_lt, if◌then◌else◌}
 use Rattle.std.specs.FinMap.{get, insert}
 use Rattle.std.specs.Str.{bytes_eq}
 use Rattle.std.proofs.lemmas.Bool.{false≢true}
 use Rattle.std.proofs.lemmas.Bool.Decides.{eqb_tells}
+use Rattle.kilim_run_state.specs.declared.cause.EndCause.{EndCause}
 use Rattle.kilim_run_state.specs.declared.cause.EndCause.TheVariants as cause
+use Rattle.kilim_program.specs.declared.names.ClassId.{ClassId}
 use Rattle.kilim_program.specs.declared.class.Method.{Method}
 use Rattle.kilim_program.specs.declared.instr.Instr.{Instr}
 use Rattle.kilim_program.specs.declared.instr.Instr.TheVariants as instr
@@ -16,18 +18,27 @@ use Rattle.kilim_program.specs.declared.ty.Ty.{Ty}
 use Rattle.kilim_run_state.specs.declared.value.Object.{Object}
 use Rattle.kilim_program.specs.declared.value.Value.{Value}
 use Rattle.kilim_program.specs.declared.value.Value.TheVariants.{Box, Fiber, Int, Long, Null, Ref, Text}
-use Rattle.kilim_program.specs.Names.{field_of, method_at}
+use Rattle.kilim_program.specs.Names.{class_name, field_of, method_at}
 use Rattle.kilim_program.specs.Program.{Program}
 use Rattle.kilim_run_state.specs.Machine.{Objects}
 use Rattle.kilim_run_machine.specs.Effect.{Effect, Goes, Makes, Opens, Calls, Asks, Returns, Raises, Throws, Ends, Stuck, with_some, on_value, on_values, as_class, as_reference, as_receiver, as_int, as_long, when, wide_or, as_object, at_place, at_index, on_constant}
 use Rattle.kilim_run_machine.specs.Does.{at_unit, calls_method, calls_on, calls_text, cast_fits, chosen, does, element_type, makes_array, array_limit, takes_element, text_answers, throws_object, unit_at, with_element}
 use Rattle.kilim_run_machine.specs.Natives.{is_handed_out}
+use Rattle.kilim_run_machine.specs.Raising.{thrown_cause, word_in, words}
+use Rattle.kilim_fiber_laws.specs.receivers.states.Law.{is_exception}
 use Rattle.kilim_run_state.specs.Objects.{new_array}
 use Rattle.kilim_run_state.specs.Shapes.{field_in}
 use Rattle.kilim_type_sound.proofs.Maps.{put_other, put_there}
 use Rattle.kilim_fiber_spec.proofs.alike.Effects.{is_simple}
 
--- the same effect with another heap
+-- what isn't the cause of an exception, or is one, is replaced
+abbrev as_exception : EndCause → EndCause
+as_exception why = if is_exception why then why else cause.Null
+
+abbrev as_end : EndCause → EndCause
+as_end why = if is_exception why then cause.Done else why
+
+-- the same effect with another heap; what raises and throws has the cause of an exception, and what ends another one
 abbrev reheap : Objects → Effect → Effect
 reheap h (Goes p l s heap) = Goes p l s h
 reheap h (Makes o p l s heap) = Makes o p l s h
@@ -35,7 +46,10 @@ reheap h (Opens p l s heap) = Opens p l s h
 reheap h (Calls c args p l s heap) = Calls c args p l s h
 reheap h (Asks c args p l s heap) = Asks c args p l s h
 reheap h (Returns v heap) = Returns v h
-reheap h e = e
+reheap h (Raises why) = Raises (as_exception why)
+reheap h (Throws n c why) = Throws n c (as_exception why)
+reheap h (Ends why) = Ends (as_end why)
+reheap h Stuck = Stuck
 
 -- it stores into an object
 abbrev is_store : Instr → Bool
@@ -146,8 +160,24 @@ r_answers name units (v ∷ w ∷ vs) to l s h = refl
 r_text : (named : Method) (args : List Value) (to : ℕ) (l s : List Value) (h : Objects) (v : Value) → reheap h (calls_text named args to l s h v) ≡ calls_text named args to l s h v
 r_text named args to l s h v = simp (r_receiver, r_some, r_answers)
 
+-- a word is that of an exception
+abbrev AllWords : List (List ℕ × EndCause) → Type 0
+AllWords [] = Unit {0}
+AllWords (e ∷ es) = (is_exception e.1 ≡ true) × AllWords es
+
+word_so : (es : List (List ℕ × EndCause)) (name : List ℕ) → AllWords es → is_exception (word_in es name) ≡ true
+word_so [] name all = refl
+word_so (e ∷ es) name all = by (bytes_eq name e.0) (word_so es name all.1)
+  where
+    by : (z : Bool) → is_exception (word_in es name) ≡ true → is_exception (cond z e.1 (word_in es name)) ≡ true
+    by true later = all.0
+    by false later = later
+
+thrown_so : (p : Program) (c : ClassId) → is_exception (thrown_cause p c) ≡ true
+thrown_so p c = word_so words (class_name p c) (refl, (refl, (refl, (refl, (refl, (refl, (refl, (refl, tt))))))))
+
 r_throws : (h : Objects) (p : Program) (n dims : ℕ) (b : Base) → reheap h (throws_object p n dims b) ≡ throws_object p n dims b
-r_throws h p n zero (base.Class c) = refl
+r_throws h p n zero (base.Class c) = ap (λ (z : Bool). Throws n c (cond z (thrown_cause p c) cause.Null)) (thrown_so p c)
 r_throws h p n zero b = refl
 r_throws h p n (suc d) b = refl
 
@@ -268,7 +298,8 @@ put_grows h k old now there = λ n o at. by n o at (eqb_tells n k)
     by n o at (inr e) = (o, put_other h k now n e.1 ∙ at)
 
 module _ (h : Objects) where
-  -- where it goes on, no object is lost; where it makes something, calls or returns, the heap is the same
+  -- Where it goes on, no object is lost; where it makes something, calls or returns, the heap is the same. What is raised or thrown has the
+  -- cause of an exception, and what ends another one.
   abbrev pub KeepsHeap : Effect → Type 0
   KeepsHeap (Goes p l s k) = Grows h k
   KeepsHeap (Makes o p l s k) = k ≡ h
@@ -276,7 +307,10 @@ module _ (h : Objects) where
   KeepsHeap (Calls c args p l s k) = k ≡ h
   KeepsHeap (Asks c args p l s k) = k ≡ h
   KeepsHeap (Returns v k) = k ≡ h
-  KeepsHeap e = Unit {0}
+  KeepsHeap (Raises why) = is_exception why ≡ true
+  KeepsHeap (Throws n c why) = is_exception why ≡ true
+  KeepsHeap (Ends why) = is_exception why ≡ false
+  KeepsHeap Stuck = Unit {0}
 
   heap_in : Effect → Objects
   heap_in (Goes p l s k) = k
@@ -287,17 +321,37 @@ module _ (h : Objects) where
   heap_in (Returns v k) = k
   heap_in e = h
 
+  cause_in : Effect → EndCause
+  cause_in (Raises why) = why
+  cause_in (Throws n c why) = why
+  cause_in (Ends why) = why
+  cause_in e = cause.Null
+
+  raised_so : (why : EndCause) → as_exception why ≡ why → is_exception why ≡ true
+  raised_so why e = by (is_exception why) refl
+    where
+      by : (z : Bool) → is_exception why ≡ z → is_exception why ≡ true
+      by true is = is
+      by false is = sym (ap is_exception (sym (ap (λ (z : Bool). cond z why cause.Null) is) ∙ e))
+
+  ended_so : (why : EndCause) → as_end why ≡ why → is_exception why ≡ false
+  ended_so why e = by (is_exception why) refl
+    where
+      by : (z : Bool) → is_exception why ≡ z → is_exception why ≡ false
+      by true is = sym (ap is_exception (sym (ap (λ (z : Bool). cond z cause.Done why) is) ∙ e))
+      by false is = is
+
   reheaped_keeps : (e : Effect) → reheap h e ≡ e → KeepsHeap e
-  unfolding heap_in
+  unfolding heap_in cause_in
   reheaped_keeps (Goes p l s k) e = same_grows h k (sym (ap heap_in e))
   reheaped_keeps (Makes o p l s k) e = sym (ap heap_in e)
   reheaped_keeps (Opens p l s k) e = sym (ap heap_in e)
   reheaped_keeps (Calls c args p l s k) e = sym (ap heap_in e)
   reheaped_keeps (Asks c args p l s k) e = sym (ap heap_in e)
   reheaped_keeps (Returns v k) e = sym (ap heap_in e)
-  reheaped_keeps (Raises c) e = tt
-  reheaped_keeps (Throws object class c) e = tt
-  reheaped_keeps (Ends c) e = tt
+  reheaped_keeps (Raises c) e = raised_so c (ap cause_in e)
+  reheaped_keeps (Throws object class c) e = raised_so c (ap cause_in e)
+  reheaped_keeps (Ends c) e = ended_so c (ap cause_in e)
   reheaped_keeps Stuck e = tt
 
   g_value : (s : List Value) (go : Value → List Value → Effect) → ((v : Value) (r : List Value) → KeepsHeap (go v r)) → KeepsHeap (on_value s go)
@@ -329,19 +383,19 @@ module _ (h : Objects) where
   g_object : (v : Value) (go : ℕ → Object → Effect) → ((n : ℕ) (o : Object) → get h n ≡ Some o → KeepsHeap (go n o)) → KeepsHeap (as_object v h go)
   g_object (Int x) go k = tt
   g_object (Long x) go k = tt
-  g_object Null go k = tt
+  g_object Null go k = refl
   g_object (Ref n) go k = g_some (get h n) (λ object. go n object) (λ o at. k n o at)
   g_object (Text units) go k = tt
   g_object (Box box) go k = tt
   g_object Fiber go k = tt
 
   g_place : (o : Option Value) (go : Value → Effect) → ((v : Value) → KeepsHeap (go v)) → KeepsHeap (at_place o go)
-  g_place None go k = tt
+  g_place None go k = refl
   g_place (Some v) go k = k v
 
   g_index : (vs : List Value) (i : ℤ) (go : ℕ → Value → Effect) → ((k : ℕ) (v : Value) → KeepsHeap (go k v)) → KeepsHeap (at_index vs i go)
   g_index vs (pos i) go k = g_place (slice_get vs i) (go i) (k i)
-  g_index vs (negsuc i) go k = tt
+  g_index vs (negsuc i) go k = refl
 
   g_if : (b : Bool) (d e : Effect) → KeepsHeap d → KeepsHeap e → KeepsHeap (cond b d e)
   g_if true d e j k = j
@@ -396,7 +450,7 @@ module _ (P : Program) (own : Method) (l : List Value) (to : ℕ) (s : List Valu
   stores instr.Lastore k = g_value heap s _ (λ v above. g_long heap v _ (λ x. g_element heap above _ to l))
   stores instr.Aastore k =
       g_value heap s _ (λ v above. g_value heap above _ (λ w below. g_int heap w _ (λ i. g_value heap below _ (λ x rest. g_object heap x _ (λ n object at. g_index heap object.elements i _ (λ k old.
-      g_class heap P v _ (λ class. g_if heap (cast_fits P class (element_type object.class)) _ _ (put_grows heap n object _ at) tt)))))))
+      g_class heap P v _ (λ class. g_if heap (cast_fits P class (element_type object.class)) _ _ (put_grows heap n object _ at) refl)))))))
   stores (instr.Putfield f) k =
       g_value heap s _ (λ v below. g_value heap below _ (λ x rest. g_object heap x _ (λ n object at. g_some heap (field_of P f) _ (λ field e. g_some heap (field_in object.fields f) _ (λ old d. put_grows heap n object _ at)))))
   stores i k = absurd (false≢true k)

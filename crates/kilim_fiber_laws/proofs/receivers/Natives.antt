@@ -1,5 +1,5 @@
 -- What a built-in method does to what is kept: nothing, but for a tree that it is given, which goes, and one that comes.
-use Rattle.std.proofs.Common.{◌≡◌, ◌⊎◌, inl, inr, cond, ℕ, ◌+◌, ◌≤◌, ℤ, Bool, true, false, List, [], ◌∷◌, length, Option, Some, None, refl, sym, ap, subst, ◌∙◌, zero, suc, pos, negsuc}
+use Rattle.std.proofs.Common.{◌≡◌, ◌⊎◌, inl, inr, cond, ℕ, ◌+◌, ◌≤◌, ℤ, Bool, true, false, List, [], ◌∷◌, length, Option, Some, None, refl, sym, ap, subst, ◌∙◌, zero, suc, pos, negsuc, arith}
 use Rattle.std.specs.Prelude.{◌&&◌}
 use Rattle.std.specs.FinMap.{get}
 use Rattle.std.proofs.lemmas.Bool.{and_parts, false≢true}
@@ -51,10 +51,11 @@ use Rattle.kilim_type_laws.specs.Laws.{typing_at}
 use Rattle.kilim_fiber_spec.specs.lone.Law.{lone_frames}
 use Rattle.kilim_fiber_laws.proofs.receivers.Chain.{wants_all}
 use Rattle.kilim_fiber_laws.proofs.receivers.Held.{Held, HeldIn, IsPrivate, Keeps, held_map, rules_hold, verified}
-use Rattle.kilim_fiber_spec.specs.Acts.{Action, Wants, World, acting, asks, ending, gives_arg, last, native_does, prints, probe_by, put_by, puts, puts_value, receives, start_by, starts, take_by, put_wait_by, put_waits, waits_value, bounds}
+use Rattle.kilim_fiber_spec.specs.Acts.{Action, Wants, World, acting, asks, ending, gives_arg, last, native_does, prints, probe_by, put_by, puts, puts_value, receives, start_by, starts, take_by, put_wait_by, put_waits, waits_value, bounds, counted}
 use Rattle.kilim_fiber_spec.specs.Acts as action
 use Rattle.kilim_fiber_spec.specs.Fibers.{frame}
-use Rattle.kilim_fiber_spec.specs.Thread.{Frame, Run, Stop, Thread, push}
+use Rattle.kilim_fiber_laws.proofs.receivers.Landing.{asked_raised}
+use Rattle.kilim_fiber_spec.specs.Thread.{At, Frame, Run, Stop, Thread, push, raised_behind}
 
 some_same : {A : Type 0} (o : Option A) (x y : A) → o ≡ Some x → o ≡ Some y → x ≡ y
 some_same o x y e f = cc
@@ -229,6 +230,23 @@ module _ (set : Setting) (run : IsRunOfAccepted set) (of : Classes) (next : ℕ)
     ended : (why : EndCause) → HeldIn set run (ending set w Stop why)
     ended why = acted (action.Ends why) (λ deed rest. last set w Stop why rest) (λ d rest. at_last why rest)
 
+    abbrev raise : EndCause → Thread
+    raise = raised_behind set (At m q l s x ∷ b) w
+
+    raised_so : (why : EndCause) → HeldIn set run (raise why)
+    raised_so why = asked_raised set run of h next typed.heap (fresh next (omega arith)) m q l s x b c args before each held w same_heap same_next why (ends (counted w))
+      where
+        ends : (v : World) → HeldIn set run (ending set v Stop why)
+        ends v = by v.deeds
+          where
+            last_so : (rest : List Deed) → HeldIn set run (last set v Stop why rest)
+            last_so [] = tt
+            last_so (d ∷ rest) = tt
+
+            by : (ds : List Deed) → HeldIn set run (elim ds [ [] ↦ Stop (Wants (action.Ends why) v) | deed ∷ rest ↦ last set v Stop why rest ])
+            by [] = tt
+            by (d ∷ rest) = last_so rest
+
     gone_heap : (root : ℕ) → without w.heap (tree_names set.program w.heap root) ≡ without h (tree_names set.program h root)
     gone_heap root = ap (λ (k : Objects). without k (tree_names set.program k root)) same_heap
 
@@ -242,8 +260,8 @@ module _ (set : Setting) (run : IsRunOfAccepted set) (of : Classes) (next : ℕ)
     puts_so box root known own None e = ended cause.Large
     puts_so box root known own (Some shape) e = acted (action.Puts box root shape) (λ deed rest. put_by set w Stop go box shape root deed.act rest) (λ d rest. put_so box root known own shape e d.act rest)
 
-    message_so : (box : BoxName) (v : Value) → native_of set.program c ≡ Some native.Put → args ≡ Box box ∷ v ∷ [] → HeldIn set run (puts_value set w Stop go box v)
-    message_so box Null known own = ended cause.Null
+    message_so : (box : BoxName) (v : Value) → native_of set.program c ≡ Some native.Put → args ≡ Box box ∷ v ∷ [] → HeldIn set run (puts_value set w Stop go raise box v)
+    message_so box Null known own = raised_so cause.Null
     message_so box (Ref root) known own = puts_so box root known own (shape_of set.program w.heap root) (ap (λ (k : Objects). shape_of set.program k root) (sym same_heap))
     message_so box v known own = tt
 
@@ -256,15 +274,15 @@ module _ (set : Setting) (run : IsRunOfAccepted set) (of : Classes) (next : ℕ)
     put_waits_so box root known own None e = ended cause.Large
     put_waits_so box root known own (Some shape) e = acted (action.PutWaits box root shape) (λ deed rest. put_wait_by set w Stop go box shape root deed.act rest) (λ d rest. put_wait_so box root known own shape e d.act rest)
 
-    wait_so : (box : BoxName) (v : Value) → native_of set.program c ≡ Some native.PutWait → args ≡ Box box ∷ v ∷ [] → HeldIn set run (waits_value set w Stop go box v)
-    wait_so box Null known own = ended cause.Null
+    wait_so : (box : BoxName) (v : Value) → native_of set.program c ≡ Some native.PutWait → args ≡ Box box ∷ v ∷ [] → HeldIn set run (waits_value set w Stop go raise box v)
+    wait_so box Null known own = raised_so cause.Null
     wait_so box (Ref root) known own = put_waits_so box root known own (shape_of set.program w.heap root) (ap (λ (k : Objects). shape_of set.program k root) (sym same_heap))
     wait_so box v known own = tt
 
-    bound_so : native_of set.program c ≡ Some native.Bound → (box : BoxName) (i : ℤ) → HeldIn set run (bounds set w Stop go box i)
+    bound_so : native_of set.program c ≡ Some native.Bound → (box : BoxName) (i : ℤ) → HeldIn set run (bounds set w Stop go raise box i)
     bound_so known box (pos (suc i)) = acted (action.Bounds box (suc i)) _ (λ d rest. with_none native.Bound known refl _ same_heap)
-    bound_so known box (pos zero) = ended cause.Size
-    bound_so known box (negsuc i) = ended cause.Size
+    bound_so known box (pos zero) = raised_so cause.Size
+    bound_so known box (negsuc i) = raised_so cause.Size
 
     start_so : (root : ℕ) → native_of set.program c ≡ Some native.Start → args ≡ Ref root ∷ [] → (shape : List Token) → shape_of set.program h root ≡ Some shape → (act : Act) (rest : List Deed) → HeldIn set run (start_by set w Stop go shape root act rest)
     start_so root known own shape e (Start k z) rest =
@@ -294,11 +312,11 @@ module _ (set : Setting) (run : IsRunOfAccepted set) (of : Classes) (next : ℕ)
     prints_so known None = tt
     prints_so known (Some t) = acted (action.Prints t) _ (λ d rest. with_none native.Print known refl _ same_heap)
 
-    arg_so : native_of set.program c ≡ Some native.Arg → (o : Option ℤ) → HeldIn set run (gives_arg set w Stop go o)
-    arg_so known None = ended cause.Index
+    arg_so : native_of set.program c ≡ Some native.Arg → (o : Option ℤ) → HeldIn set run (gives_arg set w Stop go raise o)
+    arg_so known None = raised_so cause.Index
     arg_so known (Some i) = with_int native.Arg known refl i _ same_heap
 
-    does_so : (k : Native) (vs : List Value) → native_of set.program c ≡ Some k → args ≡ vs → HeldIn set run (native_does set w Stop go k vs)
+    does_so : (k : Native) (vs : List Value) → native_of set.program c ≡ Some k → args ≡ vs → HeldIn set run (native_does set w Stop go raise k vs)
     does_so native.Execute (Ref root ∷ []) known own = with_none native.Execute known refl _ same_heap
     does_so native.Start (Ref root ∷ []) known own = starts_so root known own (shape_of set.program w.heap root) (ap (λ (k : Objects). shape_of set.program k root) (sym same_heap))
     does_so native.Put (Box box ∷ v ∷ []) known own = message_so box v known own
@@ -312,6 +330,6 @@ module _ (set : Setting) (run : IsRunOfAccepted set) (of : Classes) (next : ℕ)
     does_so native.Arg (Int i ∷ []) known own = arg_so known (arg_at set.limits.args i)
     does_so k vs known own = tt
 
-    pub asked_held : (o : Option Native) → native_of set.program c ≡ o → HeldIn set run (asks set w Stop go o args)
+    pub asked_held : (o : Option Native) → native_of set.program c ≡ o → HeldIn set run (asks set w Stop go raise o args)
     asked_held None known = tt
     asked_held (Some k) known = does_so k args known refl

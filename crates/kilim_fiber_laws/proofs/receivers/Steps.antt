@@ -39,6 +39,7 @@ use Rattle.kilim_fiber_laws.proofs.receivers.Held.{Guard, Held, HeldIn, IsPrivat
 use Rattle.kilim_fiber_laws.proofs.receivers.Natives.{asked_held}
 use Rattle.kilim_fiber_spec.specs.Acts.{Wants, World, counted, ending, last, with_heap}
 use Rattle.kilim_fiber_spec.specs.Acts as action
+use Rattle.kilim_fiber_laws.proofs.receivers.Landing.{object_held, raised_held}
 use Rattle.kilim_fiber_spec.specs.Fibers.{frame}
 use Rattle.kilim_fiber_spec.specs.Thread.{At, Frame, Run, Stop, Thread, begins, begins_in, effect_does, fetch, finishes, found_does, own_of, push, self_of, step}
 use Rattle.kilim_run_model.specs.declared.deed.Deed.{Deed}
@@ -100,7 +101,7 @@ module _ (set : Setting) (run : IsRunOfAccepted set) where
         other : (o : ℕ) → IsPrivate set run w.heap o → o ≢ w.next
         other o z e = absurd (let c = sym (is.fits.fits.heap.classes o z.0 z.1) ∙ (ap of e ∙ is.fits.fresh w.next (omega arith)) in cc)
 
-    opens_held : (q : ℕ) (l2 s2 : List Value) (h : Objects) → Graph (Opens q l2 s2 h) → h ≡ w.heap → HeldIn set run (effect_does set (Opens q l2 s2 h) m x b w)
+    opens_held : (q : ℕ) (l2 s2 : List Value) (h : Objects) → Graph (Opens q l2 s2 h) → h ≡ w.heap → HeldIn set run (effect_does set (Opens q l2 s2 h) (frame m p l s) x b w)
     opens_held q l2 s2 h g same = by (nat_lt w.boxes box_limit)
       where
         by : (z : Bool) → HeldIn set run (cond z (Run m q l2 (Box (record { task = w.task; number = w.boxes }) ∷ s2) x b (record (counted (with_heap w h)) { boxes = w.boxes + 1 })) (ending set (with_heap w h) Stop cause.Boxes))
@@ -109,7 +110,7 @@ module _ (set : Setting) (run : IsRunOfAccepted set) where
             (λ pre le o k. subst (λ (y : Objects). Keeps set run y (frame m q l2 (Box (record { task = w.task; number = w.boxes }) ∷ s2) ∷ pre) o) same (g (Some o) pre k (record { task = w.task; number = w.boxes }))) (λ o z. z) m x held)
         by false = ended (with_heap w h) cause.Boxes
 
-    calls_held : (c : MethodId) (args : List Value) (q : ℕ) (l2 s2 : List Value) (h : Objects) → Typed (Calls c args q l2 s2 h) → Graph (Calls c args q l2 s2 h) → h ≡ w.heap → Begun (Calls c args q l2 s2 h) → HeldIn set run (effect_does set (Calls c args q l2 s2 h) m x b w)
+    calls_held : (c : MethodId) (args : List Value) (q : ℕ) (l2 s2 : List Value) (h : Objects) → Typed (Calls c args q l2 s2 h) → Graph (Calls c args q l2 s2 h) → h ≡ w.heap → Begun (Calls c args q l2 s2 h) → HeldIn set run (effect_does set (Calls c args q l2 s2 h) (frame m p l s) x b w)
     calls_held c args q l2 s2 h t g same guard = by (nat_lt (length (At m q l2 s2 x ∷ b)) frame_limit) refl
       where
         new : Activation
@@ -138,7 +139,7 @@ module _ (set : Setting) (run : IsRunOfAccepted set) where
         )
         by false z = ended (with_heap w h) cause.Depth
 
-    asks_held : (c : MethodId) (args : List Value) (q : ℕ) (l2 s2 : List Value) (h : Objects) → Typed (Asks c args q l2 s2 h) → Graph (Asks c args q l2 s2 h) → h ≡ w.heap → HeldIn set run (effect_does set (Asks c args q l2 s2 h) m x b w)
+    asks_held : (c : MethodId) (args : List Value) (q : ℕ) (l2 s2 : List Value) (h : Objects) → Typed (Asks c args q l2 s2 h) → Graph (Asks c args q l2 s2 h) → h ≡ w.heap → HeldIn set run (effect_does set (Asks c args q l2 s2 h) (frame m p l s) x b w)
     asks_held c args q l2 s2 h t g same =
         asked_held set run of w.next is.fits.fresh m q l2 s2 x b c args h t w.kept (g w.kept (lone_frames b) is.stands) (λ pre. frame m p l s ∷ pre)
         (λ pre le o k. g (Some o) pre (subst (λ (y : Objects). Keeps set run y (frame m p l s ∷ pre) o) same k)) (subst (λ (y : Objects). Held set run y (λ pre. frame m p l s ∷ pre) m x b) (sym same) held)
@@ -182,7 +183,7 @@ module _ (set : Setting) (run : IsRunOfAccepted set) where
   returns_held : (of : Classes) (m : MethodId) (p : ℕ) (l s : List Value) (x : Value) (b : List Frame) (w : World) → IsWell set run of (lone_at m p l s b w) → Held set run w.heap (λ pre. frame m p l s ∷ pre) m x b → (v : Option Value) (h : Objects) →
       typed.MoveFits set.program (typing_at set.program) wants_all of (move_by set.program (Returns v h) (frame m p l s) (lone_frames b)) →
       ((kept : Option ℕ) (pre : List Activation) → FramesFit set.program (typing_at set.program) (listed_at set.program) kept w.heap (frame m p l s ∷ pre) → graphs.MoveFits set.program (typing_at set.program) (listed_at set.program) kept (move_by set.program (Returns v h) (frame m p l s) pre)) →
-      h ≡ w.heap → Later (effect_does set (Returns v h) m x b w) → HeldIn set run (effect_does set (Returns v h) m x b w)
+      h ≡ w.heap → Later (effect_does set (Returns v h) (frame m p l s) x b w) → HeldIn set run (effect_does set (Returns v h) (frame m p l s) x b w)
   returns_held of m p l s x [] w is held v h t g same later = begins_held of h (with_heap w h) refl t is.fits.kept w.kept refl (g w.kept [] is.stands) later
   returns_held of m p l s x (At m2 p2 l2 s2 x2 ∷ b) w is held v h t g same later = by v t g
     where
@@ -200,17 +201,17 @@ module _ (set : Setting) (run : IsRunOfAccepted set) where
   -- ---- each step
 
   effect_held : (of : Classes) (m : MethodId) (p : ℕ) (l s : List Value) (x : Value) (b : List Frame) (w : World) (is : IsWell set run of (lone_at m p l s b w)) (i : Instr) (to : ℕ) (f : fetch set.program m p ≡ Some (i, to)) (held : Held set run w.heap (λ pre. frame m p l s ∷ pre) m x b) (e : Effect) →
-      Typed of m p l s x b w is i to f held e → Graph of m p l s x b w is i to f held e → KeepsHeap w.heap e → Begun of m p l s x b w is i to f held e → Later (effect_does set e m x b w) → HeldIn set run (effect_does set e m x b w)
-  effect_held of m p l s x b w is i to f held (Goes q l2 s2 h) t g k d later = goes_held of m p l s x b w is i to f held q l2 s2 h t g k
-  effect_held of m p l s x b w is i to f held (Makes object q l2 s2 h) t g k d later = makes_held of m p l s x b w is i to f held object q l2 s2 h t g k
-  effect_held of m p l s x b w is i to f held (Opens q l2 s2 h) t g k d later = opens_held of m p l s x b w is i to f held q l2 s2 h g k
-  effect_held of m p l s x b w is i to f held (Calls c args q l2 s2 h) t g k d later = calls_held of m p l s x b w is i to f held c args q l2 s2 h t g k d
-  effect_held of m p l s x b w is i to f held (Asks c args q l2 s2 h) t g k d later = asks_held of m p l s x b w is i to f held c args q l2 s2 h t g k
-  effect_held of m p l s x b w is i to f held (Returns v h) t g k d later = returns_held of m p l s x b w is held v h t g k later
-  effect_held of m p l s x b w is i to f held (Raises why) t g k d later = ended w why
-  effect_held of m p l s x b w is i to f held (Throws object class why) t g k d later = ended w why
-  effect_held of m p l s x b w is i to f held (Ends why) t g k d later = ended w why
-  effect_held of m p l s x b w is i to f held Stuck t g k d later = tt
+      Typed of m p l s x b w is i to f held e → Graph of m p l s x b w is i to f held e → KeepsHeap w.heap e → Begun of m p l s x b w is i to f held e → does set.program (own_of set.program m) i to l s w.heap ≡ e → Later (effect_does set e (frame m p l s) x b w) → HeldIn set run (effect_does set e (frame m p l s) x b w)
+  effect_held of m p l s x b w is i to f held (Goes q l2 s2 h) t g k d same later = goes_held of m p l s x b w is i to f held q l2 s2 h t g k
+  effect_held of m p l s x b w is i to f held (Makes object q l2 s2 h) t g k d same later = makes_held of m p l s x b w is i to f held object q l2 s2 h t g k
+  effect_held of m p l s x b w is i to f held (Opens q l2 s2 h) t g k d same later = opens_held of m p l s x b w is i to f held q l2 s2 h g k
+  effect_held of m p l s x b w is i to f held (Calls c args q l2 s2 h) t g k d same later = calls_held of m p l s x b w is i to f held c args q l2 s2 h t g k d
+  effect_held of m p l s x b w is i to f held (Asks c args q l2 s2 h) t g k d same later = asks_held of m p l s x b w is i to f held c args q l2 s2 h t g k
+  effect_held of m p l s x b w is i to f held (Returns v h) t g k d same later = returns_held of m p l s x b w is held v h t g k later
+  effect_held of m p l s x b w is i to f held (Raises why) t g k d same later = raised_held set run of m p l s x b w is i to f held why (ended (counted w) why)
+  effect_held of m p l s x b w is i to f held (Throws n c why) t g k d same later = object_held set run of m p l s x b w is i to f held n c why same (ended (counted w) why)
+  effect_held of m p l s x b w is i to f held (Ends why) t g k d same later = ended w why
+  effect_held of m p l s x b w is i to f held Stuck t g k d same later = tt
 
   begun : (of : Classes) (m : MethodId) (p : ℕ) (l s : List Value) (x : Value) (b : List Frame) (w : World) (is : IsWell set run of (lone_at m p l s b w)) (i : Instr) (to : ℕ) (f : fetch set.program m p ≡ Some (i, to)) (held : Held set run w.heap (λ pre. frame m p l s ∷ pre) m x b) (e : Effect) →
       does set.program (own_of set.program m) i to l s w.heap ≡ e → Begun of m p l s x b w is i to f held e
@@ -221,12 +222,12 @@ module _ (set : Setting) (run : IsRunOfAccepted set) where
   step_held of (Stop o) is held later = tt
   step_held of (Run m p l s x b w) is held later = by (nat_le set.limits.steps w.done) later
     where
-      found : (o : Option (Instr × ℕ)) → fetch set.program m p ≡ o → Later (found_does set o m l s x b w) → HeldIn set run (found_does set o m l s x b w)
+      found : (o : Option (Instr × ℕ)) → fetch set.program m p ≡ o → Later (found_does set o (frame m p l s) x b w) → HeldIn set run (found_does set o (frame m p l s) x b w)
       found None f later = tt
       found (Some at) f later =
           effect_held of m p l s x b w is at.0 at.1 f held (does set.program (own_of set.program m) at.0 at.1 l s w.heap) (typed_move set run of m p l s b w is at.0 at.1 f) (graph_move set run of m p l s b w is at.0 at.1 f)
-          (keeps_heap set.program (own_of set.program m) l at.1 s w.heap at.0) (begun of m p l s x b w is at.0 at.1 f held (does set.program (own_of set.program m) at.0 at.1 l s w.heap) refl) later
+          (keeps_heap set.program (own_of set.program m) l at.1 s w.heap at.0) (begun of m p l s x b w is at.0 at.1 f held (does set.program (own_of set.program m) at.0 at.1 l s w.heap) refl) refl later
 
-      by : (z : Bool) → Later (cond z (ending set w Stop cause.Spent) (found_does set (fetch set.program m p) m l s x b w)) → HeldIn set run (cond z (ending set w Stop cause.Spent) (found_does set (fetch set.program m p) m l s x b w))
+      by : (z : Bool) → Later (cond z (ending set w Stop cause.Spent) (found_does set (fetch set.program m p) (frame m p l s) x b w)) → HeldIn set run (cond z (ending set w Stop cause.Spent) (found_does set (fetch set.program m p) (frame m p l s) x b w))
       by true later = ended w cause.Spent
       by false later = found (fetch set.program m p) refl later

@@ -1,3 +1,4 @@
+pub mod Left
 pub mod Along
 pub mod Begins
 pub mod Called

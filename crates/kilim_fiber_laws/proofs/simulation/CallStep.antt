@@ -2,6 +2,7 @@
 use Rattle.std.proofs.Common.{◌≡◌, ◌≢◌, inl, inr, ℕ, suc, ◌+◌, ◌*◌, ◌≤◌, Bool, true, false, List, [], ◌∷◌, ◌++◌, length, Option, Some, None, refl, sym, ap, subst, ◌∙◌, arith, zero}
 use Rattle.std.specs.Prelude.{nat_le, nat_lt, if◌then◌else◌}
 use Rattle.std.proofs.lemmas.Bool.{false≢true}
+use Rattle.kilim_run_state.specs.declared.cause.EndCause.{EndCause}
 use Rattle.kilim_run_state.specs.declared.cause.EndCause.TheVariants as cause
 use Rattle.kilim_program.specs.declared.class.Method.{Method}
 use Rattle.kilim_program.specs.declared.instr.Instr.{Instr}
@@ -19,9 +20,12 @@ use Rattle.kilim_run_machine.specs.Moves.{entered, frame_limit}
 use Rattle.kilim_run_model.specs.State.{Setting}
 use Rattle.kilim_weave_spec.specs.Woven.{member, fiber_slot, pausable_callee}
 use Rattle.kilim_fiber_spec.specs.Acts.{World, Lost, counted, ending, spending, native_does, asks, apart, together, put_waits}
-use Rattle.kilim_fiber_spec.specs.Thread.{fetch, push, Frame, At, Thread, Run, Stop, step, self_of, found_does, effect_does, calls, own_of}
+use Rattle.kilim_fiber_spec.proofs.lone.Left.{behind_over, raises_over}
+use Rattle.kilim_fiber_laws.proofs.simulation.Uncaught.{wbehind_over, wraises_over}
+use Rattle.kilim_run_machine.specs.Raising.{index_at, raised_class}
+use Rattle.kilim_fiber_spec.specs.Thread.{fetch, push, Frame, At, Thread, Run, Stop, step, self_of, found_does, effect_does, calls, own_of, raised_behind}
 use Rattle.kilim_run_machine.specs.Natives.{Down, FiberMember}
-use Rattle.kilim_fiber_spec.specs.Fibers.{Fib, Fiber_at, Saved, empty_record, member_of, without_fiber, before, Woven_state, WRun, Resting, WStop, wstep, weffect, wcalls, wasks, wnatives, wnative, handed_does, gets, getting, yielding, frame, putting, puts_now, waits, waits_on}
+use Rattle.kilim_fiber_spec.specs.Fibers.{Fib, Fiber_at, Saved, empty_record, member_of, without_fiber, before, Woven_state, WRun, Resting, WStop, wstep, weffect, wcalls, wasks, wnatives, wnative, handed_does, gets, getting, yielding, frame, putting, puts_now, waits, waits_on, wraised_behind}
 use Rattle.kilim_fiber_spec.specs.Form.{Facts, Group, Members, longest}
 use Rattle.kilim_fiber_spec.specs.Rows.{handed}
 use Rattle.kilim_fiber_spec.specs.Serves.{Rows, Known, Shape, IsCall, IsNative, IsRaise, IsEnd, IsStuck, is_pausing_native, IsThread, Now, leaf_receiver, resting_heap}
@@ -32,7 +36,7 @@ use Rattle.kilim_fiber_laws.proofs.simulation.Still.{StepIsKnown}
 use Rattle.kilim_run_interp.specs.Step.{stack_limit}
 use Rattle.kilim_fiber_laws.proofs.simulation.Added as add
 use Rattle.kilim_fiber_laws.proofs.simulation.Paths as path
-use Rattle.kilim_fiber_laws.proofs.simulation.Natural.{Outcome, GoesOn, IsOver, fold, Counts, native_same}
+use Rattle.kilim_fiber_laws.proofs.simulation.Natural.{Outcome, GoesOn, IsOver, IsRaised, fold, Counts, native_same}
 use Rattle.kilim_fiber_laws.proofs.simulation.Unwinds.{count_of, push_low}
 use Rattle.kilim_fiber_laws.proofs.simulation.Forward.{calm, Match, Goes_on}
 use Rattle.kilim_fiber_laws.proofs.simulation.Forward as forward
@@ -181,14 +185,17 @@ module _ (set : Setting) (W : Program) (marks : List (List Bool)) (most : ℕ) (
             z.3) z.4
 
     -- a native that returns
-    native_returns : (u : Thread) (s2 : List Value) (o : Outcome) → u ≡ fold Stop (λ (a : World) (v : Option Value). Run m to l (push v s2) x (u_frames links) a) o
-        → wstep set W marks call_state ≡ fold WStop (λ (a : World) (v : Option Value). WRun m up wl (push v s2) b f1 a ps) o → Counts w o → length s2 ≤ stack_limit set.program m → Q call_state → NextHeld set u → M u (suc (suc c)) call_state
+    native_returns : (u : Thread) (s2 : List Value) (o : Outcome) → u ≡ fold Stop (λ (a : World) (v : Option Value). Run m to l (push v s2) x (u_frames links) a) (raised_behind set (At m to l s2 x ∷ u_frames links) w) o
+        → wstep set W marks call_state ≡ fold WStop (λ (a : World) (v : Option Value). WRun m up wl (push v s2) b f1 a ps) (wraised_behind set W marks (frame m up wl s2 ∷ b) f1 w ps) o → Counts w o → length s2 ≤ stack_limit set.program m → Q call_state → NextHeld set u → M u (suc (suc c)) call_state
     native_returns u s2 (GoesOn a v) eu ew n few2 here_ok held =
         let ret = forward.returned set W marks most Q runs members form facts rows enough m p to i callee s2 (push v s2) l wl x old was links empty_record 0 a ps (good s2 few2) fine.stacked (push_low v s2) (held.stack m to l (push v s2) x (u_frames links) a eu) in
         Goes_on (Fw m to (push v s2) l wl x [] links old was a ps) eu 3 (omega arith)
         (path.joins set W marks most Q runs
         (forward.counts set W marks most Q runs members form facts rows enough (suc (suc c)) m ((form m).call_at p) wl (value.Fiber ∷ s) b f1 w ps m up wl (push v s2) b f1 a ps (omega (arith, few, enough)) ew n here_ok)
         ret.0) ret.1
+    native_returns u s2 (IsRaised why) eu ew n few2 here_ok held =
+        forward.both_end set W marks most Q runs members form facts rows enough u (suc (suc c)) m ((form m).call_at p) wl (value.Fiber ∷ s) b f1 w (counted w) ps why (omega (arith, few, enough))
+        (eu ∙ behind_over set rows.none_catches.0 (At m to l s2 x ∷ u_frames links) w why) (ew ∙ wbehind_over set W marks rows.none_catches.1 (frame m up wl s2 ∷ b) f1 w ps why) here_ok
     native_returns u s2 (IsOver o) eu ew n few2 here_ok held = forward.both_over set W marks most Q runs members form facts rows enough u (suc (suc c)) m ((form m).call_at p) wl (value.Fiber ∷ s) b f1 w ps o (omega (arith, few, enough)) eu ew here_ok
 
     module _ (typed : Typed (Run m p l s x (u_frames links) w)) (q_ok : (g : Fib) (v : World) (rest : List ℕ) → Now set W marks form (Run m p l s x (u_frames links) w) (Resting g v rest) → Q (Resting g v rest)) where
@@ -218,13 +225,13 @@ module _ (set : Setting) (W : Program) (marks : List (List Bool)) (most : ℕ) (
           ))
 
       get_does : (u : Thread) (k : MethodId) (args s2 : List Value) → does set.program (own_of set.program m) i to l s w.heap ≡ Asks k args to l s2 w.heap → native_of set.program k ≡ Some native.Get → u ≢ Stop Lost → nat_le set.limits.steps w.done ≡ false
-          → u ≡ native_does set w Stop (λ (a : World) (v : Option Value). Run m to l (push v s2) x (u_frames links) a) native.Get args
-          → wstep set W marks call_state ≡ getting set W marks (leaf.goes_on set W marks most Q runs members form facts rows enough m up wl s2 b) args f1 w ps
+          → u ≡ native_does set w Stop (λ (a : World) (v : Option Value). Run m to l (push v s2) x (u_frames links) a) (raised_behind set (At m to l s2 x ∷ u_frames links) w) native.Get args
+          → wstep set W marks call_state ≡ getting set W marks (leaf.goes_on set W marks most Q runs members form facts rows enough m up wl s2 b) (leaf.fails_on set W marks most Q runs members form facts rows enough m up wl s2 b) args f1 w ps
           → length s2 ≤ stack_limit set.program m → Q call_state → NextHeld set u → M u (suc (suc c)) call_state
       get_does u k [] s2 e hn ok time eu ew few2 here_ok held = absurd (ok eu)
       get_does u k (v1 ∷ v2 ∷ vs) s2 e hn ok time eu ew few2 here_ok held = absurd (ok (eu ∙ too_long v1))
         where
-          too_long : (v1 : Value) → native_does set w Stop (λ (a : World) (v : Option Value). Run m to l (push v s2) x (u_frames links) a) native.Get (v1 ∷ v2 ∷ vs) ≡ Stop Lost
+          too_long : (v1 : Value) → native_does set w Stop (λ (a : World) (v : Option Value). Run m to l (push v s2) x (u_frames links) a) (raised_behind set (At m to l s2 x ∷ u_frames links) w) native.Get (v1 ∷ v2 ∷ vs) ≡ Stop Lost
           too_long (value.Box t) = refl
           too_long v1 = refl
       get_does u k (box ∷ []) s2 e hn ok time eu ew few2 here_ok held = by ps ew
@@ -235,10 +242,10 @@ module _ (set : Setting) (W : Program) (marks : List (List Bool)) (most : ℕ) (
           sides : List Link
           sides = bares (link s2 ∷ links)
 
-          eu2 : u ≡ native_does set w Stop (leaf.behind set W marks most Q runs members form facts rows enough (bares (link s2 ∷ links))) native.Get (box ∷ [])
-          eu2 = eu ∙ ap (λ (fs : List Frame). native_does set w Stop (λ (a : World) (v : Option Value). Run m to l (push v s2) x fs a) native.Get (box ∷ [])) (sym (frames_bare links))
+          eu2 : u ≡ native_does set w Stop (leaf.behind set W marks most Q runs members form facts rows enough (bares (link s2 ∷ links))) (leaf.fails set W marks most Q runs members form facts rows enough w (bares (link s2 ∷ links))) native.Get (box ∷ [])
+          eu2 = eu ∙ ap (λ (fs : List Frame). native_does set w Stop (λ (a : World) (v : Option Value). Run m to l (push v s2) x fs a) (raised_behind set (At m to l s2 x ∷ fs) w) native.Get (box ∷ [])) (sym (frames_bare links))
 
-          by : (pauses : List ℕ) → wstep set W marks (WRun m ((form m).call_at p) wl (value.Fiber ∷ s) b f1 w ps) ≡ gets set W marks (leaf.goes_on set W marks most Q runs members form facts rows enough m up wl s2 b) (box ∷ []) box f1 w pauses → M u (suc (suc c)) call_state
+          by : (pauses : List ℕ) → wstep set W marks (WRun m ((form m).call_at p) wl (value.Fiber ∷ s) b f1 w ps) ≡ gets set W marks (leaf.goes_on set W marks most Q runs members form facts rows enough m up wl s2 b) (leaf.fails_on set W marks most Q runs members form facts rows enough m up wl s2 b) (box ∷ []) box f1 w pauses → M u (suc (suc c)) call_state
           by [] ew = leaf.takes_match set W marks most Q runs members form facts rows enough box w (bares (link s2 ∷ links)) rd.0 time u (suc (suc c)) m p to i callee s2 l wl x old was links (value.Fiber ∷ s) empty_record false ps [] (omega (arith, few)) (good s2 few2) fine.stacked eu ew here_ok held
           by (n ∷ rest) ew = leaf.gets_match set W marks most Q runs members form facts rows enough box w (bares (link s2 ∷ links)) rd.0 time n rest u (suc (suc c)) m p to i callee s2 l wl x old was links (value.Fiber ∷ s) empty_record false ps
               (rests_get box k s2 e hn) refl (omega (arith, few)) deep (good s2 few2) fine.stacked rd.1 eu2 ew here_ok held
@@ -267,8 +274,8 @@ module _ (set : Setting) (W : Program) (marks : List (List Bool)) (most : ℕ) (
             ))
 
       wait_does : (u : Thread) (k : MethodId) (args s2 : List Value) → does set.program (own_of set.program m) i to l s w.heap ≡ Asks k args to l s2 w.heap → native_of set.program k ≡ Some native.PutWait → u ≢ Stop Lost → nat_le set.limits.steps w.done ≡ false
-          → u ≡ native_does set w Stop (λ (a : World) (v : Option Value). Run m to l (push v s2) x (u_frames links) a) native.PutWait args
-          → wstep set W marks call_state ≡ putting set W marks (leaf.goes_on set W marks most Q runs members form facts rows enough m up wl s2 b) args f1 w ps
+          → u ≡ native_does set w Stop (λ (a : World) (v : Option Value). Run m to l (push v s2) x (u_frames links) a) (raised_behind set (At m to l s2 x ∷ u_frames links) w) native.PutWait args
+          → wstep set W marks call_state ≡ putting set W marks (leaf.goes_on set W marks most Q runs members form facts rows enough m up wl s2 b) (leaf.fails_on set W marks most Q runs members form facts rows enough m up wl s2 b) args f1 w ps
           → length s2 ≤ stack_limit set.program m → Q call_state → NextHeld set u → M u (suc (suc c)) call_state
       wait_does u k args s2 e hn ok time eu ew few2 here_ok held =
           by args refl eu ew
@@ -278,28 +285,28 @@ module _ (set : Setting) (W : Program) (marks : List (List Bool)) (most : ℕ) (
           rd box n shape are has = known.ready m p to i callee l s s2 args wl x old was links w k native.PutWait typed hf hp e hn refl (all_stand links fine.stacked) (box, n, shape, are, has, time)
 
           -- it is put now
-          now : (xs : List Value) (rest : List ℕ) → u ≡ native_does set w Stop (λ (a : World) (v : Option Value). Run m to l (push v s2) x (u_frames links) a) native.PutWait xs
-              → wstep set W marks call_state ≡ puts_now set W marks (leaf.goes_on set W marks most Q runs members form facts rows enough m up wl s2 b) xs f1 w rest → M u (suc (suc c)) call_state
+          now : (xs : List Value) (rest : List ℕ) → u ≡ native_does set w Stop (λ (a : World) (v : Option Value). Run m to l (push v s2) x (u_frames links) a) (raised_behind set (At m to l s2 x ∷ u_frames links) w) native.PutWait xs
+              → wstep set W marks call_state ≡ puts_now set W marks (leaf.goes_on set W marks most Q runs members form facts rows enough m up wl s2 b) (leaf.fails_on set W marks most Q runs members form facts rows enough m up wl s2 b) xs f1 w rest → M u (suc (suc c)) call_state
           now xs rest eu ew = wait.put_match set W marks most Q runs members form facts rows enough w time xs w u (suc (suc c)) m p to i callee s2 l wl x old was links (value.Fiber ∷ s) empty_record false ps rest refl (omega (arith, few)) (good s2 few2) fine.stacked eu ew here_ok held
 
           waiting : (box : BoxName) (n : ℕ) (o : Option (List Token)) → shape_of set.program w.heap n ≡ o → args ≡ value.Box box ∷ value.Ref n ∷ [] → (j : ℕ) (rest : List ℕ)
-              → wstep set W marks call_state ≡ waits set W marks (leaf.goes_on set W marks most Q runs members form facts rows enough m up wl s2 b) (value.Box box ∷ value.Ref n ∷ []) f1 w (j ∷ rest) → M u (suc (suc c)) call_state
-          waiting box n o has are zero rest ew = now (value.Box box ∷ value.Ref n ∷ []) rest (eu ∙ ap (native_does set w Stop (λ (a : World) (v : Option Value). Run m to l (push v s2) x (u_frames links) a) native.PutWait) are) ew
+              → wstep set W marks call_state ≡ waits set W marks (leaf.goes_on set W marks most Q runs members form facts rows enough m up wl s2 b) (leaf.fails_on set W marks most Q runs members form facts rows enough m up wl s2 b) (value.Box box ∷ value.Ref n ∷ []) f1 w (j ∷ rest) → M u (suc (suc c)) call_state
+          waiting box n o has are zero rest ew = now (value.Box box ∷ value.Ref n ∷ []) rest (eu ∙ ap (native_does set w Stop (λ (a : World) (v : Option Value). Run m to l (push v s2) x (u_frames links) a) (raised_behind set (At m to l s2 x ∷ u_frames links) w) native.PutWait) are) ew
           waiting box n None has are (suc j) rest ew =
               forward.both_end set W marks most Q runs members form facts rows enough u (suc (suc c)) m ((form m).call_at p) wl (value.Fiber ∷ s) b f1 w w ps cause.Large (omega (arith, few, enough))
-              (eu ∙ (ap (native_does set w Stop (λ (a : World) (v : Option Value). Run m to l (push v s2) x (u_frames links) a) native.PutWait) are ∙ ap (put_waits set w Stop (λ (a : World) (v : Option Value). Run m to l (push v s2) x (u_frames links) a) box n) has))
-              (ew ∙ (ap (λ (o : Option (List Token)). waits_on set W marks (leaf.goes_on set W marks most Q runs members form facts rows enough m up wl s2 b) box n o f1 w j rest) has ∙ ap (λ (t : Bool). if t then ending set w WStop cause.Spent else ending set w WStop cause.Large) time)) here_ok
+              (eu ∙ (ap (native_does set w Stop (λ (a : World) (v : Option Value). Run m to l (push v s2) x (u_frames links) a) (raised_behind set (At m to l s2 x ∷ u_frames links) w) native.PutWait) are ∙ ap (put_waits set w Stop (λ (a : World) (v : Option Value). Run m to l (push v s2) x (u_frames links) a) box n) has))
+              (ew ∙ (ap (λ (o : Option (List Token)). waits_on set W marks (leaf.goes_on set W marks most Q runs members form facts rows enough m up wl s2 b) (leaf.fails_on set W marks most Q runs members form facts rows enough m up wl s2 b) box n o f1 w j rest) has ∙ ap (λ (t : Bool). if t then ending set w WStop cause.Spent else ending set w WStop cause.Large) time)) here_ok
           waiting box n (Some shape) has are (suc j) rest ew =
               wait.waits_match set W marks most Q runs members form facts rows enough box n shape w (bares (link s2 ∷ links)) has (rd box n shape are has).0 time (suc j) rest w u (suc (suc c)) m p to i callee s2 l wl x old was links (value.Fiber ∷ s) empty_record false ps refl
               (rests_put box n shape has k s2 (e ∙ ap (λ (xs : List Value). Asks k xs to l s2 w.heap) are) hn) refl (omega (arith, few)) deep (good s2 few2) fine.stacked
               (subst (λ (xs : List Value). AreReady set W marks form (resting_heap set.program native.PutWait xs w.heap) (Leaf native.PutWait) (leaf_receiver native.PutWait xs) (link s2 ∷ links)) are (rd box n shape are has).1)
-              (eu ∙ (ap (native_does set w Stop (λ (a : World) (v : Option Value). Run m to l (push v s2) x (u_frames links) a) native.PutWait) are
-              ∙ ap (λ (fs : List Frame). native_does set w Stop (λ (a : World) (v : Option Value). Run m to l (push v s2) x fs a) native.PutWait (value.Box box ∷ value.Ref n ∷ [])) (sym (frames_bare links))))
-              (ew ∙ wait.first_tries set W marks most Q runs members form facts rows enough box n shape w (bares (link s2 ∷ links)) has (rd box n shape are has).0 time (leaf.goes_on set W marks most Q runs members form facts rows enough m up wl s2 b) f1 (suc j) rest) here_ok held
+              (eu ∙ (ap (native_does set w Stop (λ (a : World) (v : Option Value). Run m to l (push v s2) x (u_frames links) a) (raised_behind set (At m to l s2 x ∷ u_frames links) w) native.PutWait) are
+              ∙ ap (λ (fs : List Frame). native_does set w Stop (λ (a : World) (v : Option Value). Run m to l (push v s2) x fs a) (raised_behind set (At m to l s2 x ∷ fs) w) native.PutWait (value.Box box ∷ value.Ref n ∷ [])) (sym (frames_bare links))))
+              (ew ∙ wait.first_tries set W marks most Q runs members form facts rows enough box n shape w (bares (link s2 ∷ links)) has (rd box n shape are has).0 time (leaf.goes_on set W marks most Q runs members form facts rows enough m up wl s2 b) (leaf.fails_on set W marks most Q runs members form facts rows enough m up wl s2 b) f1 (suc j) rest) here_ok held
 
           -- by the number of pauses
-          pauses_by : (y z : Value) → args ≡ y ∷ z ∷ [] → u ≡ native_does set w Stop (λ (a : World) (v : Option Value). Run m to l (push v s2) x (u_frames links) a) native.PutWait (y ∷ z ∷ []) → (pauses : List ℕ)
-              → wstep set W marks call_state ≡ waits set W marks (leaf.goes_on set W marks most Q runs members form facts rows enough m up wl s2 b) (y ∷ z ∷ []) f1 w pauses → M u (suc (suc c)) call_state
+          pauses_by : (y z : Value) → args ≡ y ∷ z ∷ [] → u ≡ native_does set w Stop (λ (a : World) (v : Option Value). Run m to l (push v s2) x (u_frames links) a) (raised_behind set (At m to l s2 x ∷ u_frames links) w) native.PutWait (y ∷ z ∷ []) → (pauses : List ℕ)
+              → wstep set W marks call_state ≡ waits set W marks (leaf.goes_on set W marks most Q runs members form facts rows enough m up wl s2 b) (leaf.fails_on set W marks most Q runs members form facts rows enough m up wl s2 b) (y ∷ z ∷ []) f1 w pauses → M u (suc (suc c)) call_state
           pauses_by (value.Box box) (value.Ref n) are eu [] ew = now (value.Box box ∷ value.Ref n ∷ []) [] eu ew
           pauses_by (value.Box box) (value.Ref n) are eu (j ∷ rest) ew = waiting box n (shape_of set.program w.heap n) refl are j rest ew
           pauses_by (value.Box box) value.Null are eu [] ew = now (value.Box box ∷ value.Null ∷ []) [] eu ew
@@ -307,18 +314,18 @@ module _ (set : Setting) (W : Program) (marks : List (List Bool)) (most : ℕ) (
           pauses_by (value.Box box) value.Null are eu (suc j ∷ rest) ew = now (value.Box box ∷ value.Null ∷ []) (suc j ∷ rest) eu ew
           pauses_by y z are eu pauses ew = absurd (ok eu)
 
-          by : (xs : List Value) → args ≡ xs → u ≡ native_does set w Stop (λ (a : World) (v : Option Value). Run m to l (push v s2) x (u_frames links) a) native.PutWait xs
-              → wstep set W marks call_state ≡ putting set W marks (leaf.goes_on set W marks most Q runs members form facts rows enough m up wl s2 b) xs f1 w ps → M u (suc (suc c)) call_state
+          by : (xs : List Value) → args ≡ xs → u ≡ native_does set w Stop (λ (a : World) (v : Option Value). Run m to l (push v s2) x (u_frames links) a) (raised_behind set (At m to l s2 x ∷ u_frames links) w) native.PutWait xs
+              → wstep set W marks call_state ≡ putting set W marks (leaf.goes_on set W marks most Q runs members form facts rows enough m up wl s2 b) (leaf.fails_on set W marks most Q runs members form facts rows enough m up wl s2 b) xs f1 w ps → M u (suc (suc c)) call_state
           by (y ∷ z ∷ []) are eu ew = pauses_by y z are eu ps ew
           by [] are eu ew = absurd (ok eu)
           by (v ∷ []) are eu ew = absurd (ok (eu ∙ too_short v))
             where
-              too_short : (v : Value) → native_does set w Stop (λ (a : World) (v : Option Value). Run m to l (push v s2) x (u_frames links) a) native.PutWait (v ∷ []) ≡ Stop Lost
+              too_short : (v : Value) → native_does set w Stop (λ (a : World) (v : Option Value). Run m to l (push v s2) x (u_frames links) a) (raised_behind set (At m to l s2 x ∷ u_frames links) w) native.PutWait (v ∷ []) ≡ Stop Lost
               too_short (value.Box t) = refl
               too_short v = refl
           by (v ∷ y ∷ z ∷ vs) are eu ew = absurd (ok (eu ∙ too_long v))
             where
-              too_long : (v : Value) → native_does set w Stop (λ (a : World) (v : Option Value). Run m to l (push v s2) x (u_frames links) a) native.PutWait (v ∷ y ∷ z ∷ vs) ≡ Stop Lost
+              too_long : (v : Value) → native_does set w Stop (λ (a : World) (v : Option Value). Run m to l (push v s2) x (u_frames links) a) (raised_behind set (At m to l s2 x ∷ u_frames links) w) native.PutWait (v ∷ y ∷ z ∷ vs) ≡ Stop Lost
               too_long (value.Box t) = refl
               too_long v = refl
 
@@ -341,8 +348,8 @@ module _ (set : Setting) (W : Program) (marks : List (List Bool)) (most : ℕ) (
           ))
 
       yield_does : (u : Thread) (k : MethodId) (args s2 : List Value) → does set.program (own_of set.program m) i to l s w.heap ≡ Asks k args to l s2 w.heap → native_of set.program k ≡ Some native.Yield → u ≢ Stop Lost → step set here ≡ u
-          → u ≡ native_does set w Stop (λ (a : World) (v : Option Value). Run m to l (push v s2) x (u_frames links) a) native.Yield args
-          → wstep set W marks call_state ≡ yielding set W marks (leaf.goes_on set W marks most Q runs members form facts rows enough m up wl s2 b) args f1 w ps
+          → u ≡ native_does set w Stop (λ (a : World) (v : Option Value). Run m to l (push v s2) x (u_frames links) a) (raised_behind set (At m to l s2 x ∷ u_frames links) w) native.Yield args
+          → wstep set W marks call_state ≡ yielding set W marks (leaf.goes_on set W marks most Q runs members form facts rows enough m up wl s2 b) (leaf.fails_on set W marks most Q runs members form facts rows enough m up wl s2 b) args f1 w ps
           → length s2 ≤ stack_limit set.program m → Q call_state → NextHeld set u → M u (suc (suc c)) call_state
       yield_does u k [] s2 e hn ok es eu ew few2 here_ok held =
           let rd = known.ready m p to i callee l s s2 [] wl x old was links w k native.Yield typed hf hp e hn refl (all_stand links fine.stacked) tt in
@@ -353,46 +360,48 @@ module _ (set : Setting) (W : Program) (marks : List (List Bool)) (most : ℕ) (
 
       -- the built-in methods that pause, or whose methods are pausable
       native_does_match : (u : Thread) (k : MethodId) (args s2 : List Value) (n : Native) → does set.program (own_of set.program m) i to l s w.heap ≡ Asks k args to l s2 w.heap → native_of set.program k ≡ Some n → is_pausing_native n ≡ true → u ≢ Stop Lost → nat_le set.limits.steps w.done ≡ false → step set here ≡ u
-          → u ≡ native_does set w Stop (λ (a : World) (v : Option Value). Run m to l (push v s2) x (u_frames links) a) n args
-          → wstep set W marks call_state ≡ wnative set W marks (leaf.goes_on set W marks most Q runs members form facts rows enough m up wl s2 b) n (args ++ value.Fiber ∷ []) f1 w ps
+          → u ≡ native_does set w Stop (λ (a : World) (v : Option Value). Run m to l (push v s2) x (u_frames links) a) (raised_behind set (At m to l s2 x ∷ u_frames links) w) n args
+          → wstep set W marks call_state ≡ wnative set W marks (leaf.goes_on set W marks most Q runs members form facts rows enough m up wl s2 b) (leaf.fails_on set W marks most Q runs members form facts rows enough m up wl s2 b) n (args ++ value.Fiber ∷ []) f1 w ps
           → length s2 ≤ stack_limit set.program m → Q call_state → NextHeld set u → M u (suc (suc c)) call_state
-      native_does_match u k args s2 native.Get e hn pn ok time es eu ew few2 here_ok held = get_does u k args s2 e hn ok time eu (ew ∙ ap (λ (o : Option (List Value)). handed_does set W marks (leaf.goes_on set W marks most Q runs members form facts rows enough m up wl s2 b) native.Get o f1 w ps) (without_last args)) few2 here_ok held
-      native_does_match u k args s2 native.Yield e hn pn ok time es eu ew few2 here_ok held = yield_does u k args s2 e hn ok es eu (ew ∙ ap (λ (o : Option (List Value)). handed_does set W marks (leaf.goes_on set W marks most Q runs members form facts rows enough m up wl s2 b) native.Yield o f1 w ps) (without_last args)) few2 here_ok held
-      native_does_match u k args s2 native.PutWait e hn pn ok time es eu ew few2 here_ok held = wait_does u k args s2 e hn ok time eu (ew ∙ ap (λ (o : Option (List Value)). handed_does set W marks (leaf.goes_on set W marks most Q runs members form facts rows enough m up wl s2 b) native.PutWait o f1 w ps) (without_last args)) few2 here_ok held
+      native_does_match u k args s2 native.Get e hn pn ok time es eu ew few2 here_ok held = get_does u k args s2 e hn ok time eu (ew ∙ ap (λ (o : Option (List Value)). handed_does set W marks (leaf.goes_on set W marks most Q runs members form facts rows enough m up wl s2 b) (leaf.fails_on set W marks most Q runs members form facts rows enough m up wl s2 b) native.Get o f1 w ps) (without_last args)) few2 here_ok held
+      native_does_match u k args s2 native.Yield e hn pn ok time es eu ew few2 here_ok held = yield_does u k args s2 e hn ok es eu (ew ∙ ap (λ (o : Option (List Value)). handed_does set W marks (leaf.goes_on set W marks most Q runs members form facts rows enough m up wl s2 b) (leaf.fails_on set W marks most Q runs members form facts rows enough m up wl s2 b) native.Yield o f1 w ps) (without_last args)) few2 here_ok held
+      native_does_match u k args s2 native.PutWait e hn pn ok time es eu ew few2 here_ok held = wait_does u k args s2 e hn ok time eu (ew ∙ ap (λ (o : Option (List Value)). handed_does set W marks (leaf.goes_on set W marks most Q runs members form facts rows enough m up wl s2 b) (leaf.fails_on set W marks most Q runs members form facts rows enough m up wl s2 b) native.PutWait o f1 w ps) (without_last args)) few2 here_ok held
       native_does_match u k args s2 native.Execute e hn pn ok time es eu ew few2 here_ok held =
-          let z = native_same set w Stop (λ (a : World) (v : Option Value). Run m to l (push v s2) x (u_frames links) a) native.Execute args in
-          let y = native_same set w WStop (λ (a : World) (v : Option Value). WRun m up wl (push v s2) b f1 a ps) native.Execute args in
-          native_returns u s2 (native_does set w IsOver GoesOn native.Execute args) (eu ∙ z.0)
-          (ew ∙ ap (λ (o : Option (List Value)). handed_does set W marks (leaf.goes_on set W marks most Q runs members form facts rows enough m up wl s2 b) native.Execute o f1 w ps) (without_last args) ∙ y.0) z.1 few2 here_ok held
+          let z = native_same set w Stop (λ (a : World) (v : Option Value). Run m to l (push v s2) x (u_frames links) a) (raised_behind set (At m to l s2 x ∷ u_frames links) w) native.Execute args in
+          let y = native_same set w WStop (λ (a : World) (v : Option Value). WRun m up wl (push v s2) b f1 a ps) (wraised_behind set W marks (frame m up wl s2 ∷ b) f1 w ps) native.Execute args in
+          native_returns u s2 (native_does set w IsOver GoesOn IsRaised native.Execute args) (eu ∙ z.0)
+          (ew ∙ ap (λ (o : Option (List Value)). handed_does set W marks (leaf.goes_on set W marks most Q runs members form facts rows enough m up wl s2 b) (leaf.fails_on set W marks most Q runs members form facts rows enough m up wl s2 b) native.Execute o f1 w ps) (without_last args) ∙ y.0) z.1 few2 here_ok held
       native_does_match u k args s2 n e hn pn ok time es eu ew few2 here_ok held = absurd (false≢true pn)
 
-      shape_match : (u : Thread) (e : Effect) → does set.program (own_of set.program m) i to l s w.heap ≡ e → u ≢ Stop Lost → nat_le set.limits.steps w.done ≡ false → step set here ≡ u → u ≡ effect_does set e m x (u_frames links) w
-          → wstep set W marks call_state ≡ weffect set W marks true (handed up wl e) m b f1 w ps → Shape to l w.heap e → HasRoom set.program e m (bare_frames (u_frames links)) → Q call_state → NextHeld set u → M u (suc (suc c)) call_state
+      shape_match : (u : Thread) (e : Effect) → does set.program (own_of set.program m) i to l s w.heap ≡ e → u ≢ Stop Lost → nat_le set.limits.steps w.done ≡ false → step set here ≡ u → u ≡ effect_does set e (frame m p l s) x (u_frames links) w
+          → wstep set W marks call_state ≡ weffect set W marks true (handed up wl e) (frame m ((form m).call_at p) wl (value.Fiber ∷ s)) b f1 w ps → Shape to l w.heap e → HasRoom set.program e m (bare_frames (u_frames links)) → Q call_state → NextHeld set u → M u (suc (suc c)) call_state
       shape_match u e he ok time es eu ew (IsCall k args s2 d) room here_ok held =
           enters u k args s2 (known.takes m p to to i l s l s2 args x (u_frames links) w w.heap k typed hf (he ∙ d)) (subst (λ (z : Effect). HasRoom set.program z m (bare_frames (u_frames links))) d room).fits here_ok held
-          (eu ∙ ap (λ (z : Effect). effect_does set z m x (u_frames links) w) d) (ew ∙ ap (λ (z : Effect). weffect set W marks true (handed up wl z) m b f1 w ps) d)
+          (eu ∙ ap (λ (z : Effect). effect_does set z (frame m p l s) x (u_frames links) w) d) (ew ∙ ap (λ (z : Effect). weffect set W marks true (handed up wl z) (frame m ((form m).call_at p) wl (value.Fiber ∷ s)) b f1 w ps) d)
       shape_match u e he ok time es eu ew (IsNative k args s2 d) room here_ok held = by (native_of set.program k) refl
-          (eu ∙ ap (λ (z : Effect). effect_does set z m x (u_frames links) w) d) (ew ∙ ap (λ (z : Effect). weffect set W marks true (handed up wl z) m b f1 w ps) d)
+          (eu ∙ ap (λ (z : Effect). effect_does set z (frame m p l s) x (u_frames links) w) d) (ew ∙ ap (λ (z : Effect). weffect set W marks true (handed up wl z) (frame m ((form m).call_at p) wl (value.Fiber ∷ s)) b f1 w ps) d)
         where
           nn : (member_of W k ≡ None) × ((n : Native) → native_of set.program k ≡ Some n → is_pausing_native n ≡ true)
           nn = rows.natives m p i callee to l s s2 args w.heap k hf hp (known.clean m p to i l s x (u_frames links) w typed hf) (he ∙ d)
 
-          by : (o : Option Native) → native_of set.program k ≡ o → u ≡ asks set w Stop (λ (a : World) (v : Option Value). Run m to l (push v s2) x (u_frames links) a) (native_of set.program k) args
-              → wstep set W marks call_state ≡ wasks set W marks (leaf.goes_on set W marks most Q runs members form facts rows enough m up wl s2 b) (member_of W k) (native_of W k) (args ++ value.Fiber ∷ []) f1 w ps → M u (suc (suc c)) call_state
-          by None hn eu ew = absurd (ok (eu ∙ ap (λ (o : Option Native). asks set w Stop (λ (a : World) (v : Option Value). Run m to l (push v s2) x (u_frames links) a) o args) hn))
+          by : (o : Option Native) → native_of set.program k ≡ o → u ≡ asks set w Stop (λ (a : World) (v : Option Value). Run m to l (push v s2) x (u_frames links) a) (raised_behind set (At m to l s2 x ∷ u_frames links) w) (native_of set.program k) args
+              → wstep set W marks call_state ≡ wasks set W marks (leaf.goes_on set W marks most Q runs members form facts rows enough m up wl s2 b) (leaf.fails_on set W marks most Q runs members form facts rows enough m up wl s2 b) (member_of W k) (native_of W k) (args ++ value.Fiber ∷ []) f1 w ps → M u (suc (suc c)) call_state
+          by None hn eu ew = absurd (ok (eu ∙ ap (λ (o : Option Native). asks set w Stop (λ (a : World) (v : Option Value). Run m to l (push v s2) x (u_frames links) a) (raised_behind set (At m to l s2 x ∷ u_frames links) w) o args) hn))
           by (Some n) hn eu ew =
               native_does_match u k args s2 n (he ∙ d) hn (nn.1 n hn) ok time es
-              (eu ∙ ap (λ (o : Option Native). asks set w Stop (λ (a : World) (v : Option Value). Run m to l (push v s2) x (u_frames links) a) o args) hn)
-              (ew ∙ ap (λ (o : Option FiberMember). wasks set W marks (leaf.goes_on set W marks most Q runs members form facts rows enough m up wl s2 b) o (native_of W k) (args ++ value.Fiber ∷ []) f1 w ps) nn.0
-              ∙ ap (λ (o : Option Native). wnatives set W marks (leaf.goes_on set W marks most Q runs members form facts rows enough m up wl s2 b) o (args ++ value.Fiber ∷ []) f1 w ps) (rows.same_natives k nn.0 ∙ hn))
+              (eu ∙ ap (λ (o : Option Native). asks set w Stop (λ (a : World) (v : Option Value). Run m to l (push v s2) x (u_frames links) a) (raised_behind set (At m to l s2 x ∷ u_frames links) w) o args) hn)
+              (ew ∙ ap (λ (o : Option FiberMember). wasks set W marks (leaf.goes_on set W marks most Q runs members form facts rows enough m up wl s2 b) (leaf.fails_on set W marks most Q runs members form facts rows enough m up wl s2 b) o (native_of W k) (args ++ value.Fiber ∷ []) f1 w ps) nn.0
+              ∙ ap (λ (o : Option Native). wnatives set W marks (leaf.goes_on set W marks most Q runs members form facts rows enough m up wl s2 b) (leaf.fails_on set W marks most Q runs members form facts rows enough m up wl s2 b) o (args ++ value.Fiber ∷ []) f1 w ps) (rows.same_natives k nn.0 ∙ hn))
               (subst (λ (z : Effect). HasRoom set.program z m (bare_frames (u_frames links))) d room).fits here_ok held
-      shape_match u e he ok time es eu ew (IsRaise cause d) room here_ok held =
-          forward.both_end set W marks most Q runs members form facts rows enough u (suc (suc c)) m ((form m).call_at p) wl (value.Fiber ∷ s) b f1 w w ps cause (omega (arith, few, enough))
-          (eu ∙ ap (λ (z : Effect). effect_does set z m x (u_frames links) w) d) (ew ∙ ap (λ (z : Effect). weffect set W marks true (handed up wl z) m b f1 w ps) d) here_ok
+      shape_match u e he ok time es eu ew (IsRaise why d) room here_ok held =
+          forward.both_end set W marks most Q runs members form facts rows enough u (suc (suc c)) m ((form m).call_at p) wl (value.Fiber ∷ s) b f1 w (counted w) ps why (omega (arith, few, enough))
+          (eu ∙ (ap (λ (z : Effect). effect_does set z (frame m p l s) x (u_frames links) w) d ∙ raises_over set rows.none_catches.0 (counted w) why w.next (frame m p l s) x (u_frames links) (raised_class set.program (index_at set.program (frame m p l s)) why)))
+          (ew ∙ (ap (λ (z : Effect). weffect set W marks true (handed up wl z) (frame m ((form m).call_at p) wl (value.Fiber ∷ s)) b f1 w ps) d
+          ∙ wraises_over set W marks rows.none_catches.1 f1 ps (counted w) why w.next (frame m ((form m).call_at p) wl (value.Fiber ∷ s)) b (raised_class W (index_at W (frame m ((form m).call_at p) wl (value.Fiber ∷ s))) why))) here_ok
       shape_match u e he ok time es eu ew (IsEnd cause d) room here_ok held =
           forward.both_end set W marks most Q runs members form facts rows enough u (suc (suc c)) m ((form m).call_at p) wl (value.Fiber ∷ s) b f1 w w ps cause (omega (arith, few, enough))
-          (eu ∙ ap (λ (z : Effect). effect_does set z m x (u_frames links) w) d) (ew ∙ ap (λ (z : Effect). weffect set W marks true (handed up wl z) m b f1 w ps) d) here_ok
-      shape_match u e he ok time es eu ew (IsStuck d) room here_ok held = absurd (ok (eu ∙ ap (λ (z : Effect). effect_does set z m x (u_frames links) w) d))
+          (eu ∙ ap (λ (z : Effect). effect_does set z (frame m p l s) x (u_frames links) w) d) (ew ∙ ap (λ (z : Effect). weffect set W marks true (handed up wl z) (frame m ((form m).call_at p) wl (value.Fiber ∷ s)) b f1 w ps) d) here_ok
+      shape_match u e he ok time es eu ew (IsStuck d) room here_ok held = absurd (ok (eu ∙ ap (λ (z : Effect). effect_does set z (frame m p l s) x (u_frames links) w) d))
 
       pub call_match : M (step set here) c (WRun m ((form m).at p) wl s b (Fiber_at (left_overs links) (Saved old was []) [] false false) w ps)
       call_match = forward.after set W marks most Q runs members form facts rows enough goes_down (by (nat_le set.limits.steps w.done) refl)
@@ -400,10 +409,10 @@ module _ (set : Setting) (W : Program) (marks : List (List Bool)) (most : ℕ) (
           e0 : Effect
           e0 = does set.program (own_of set.program m) i to l s w.heap
 
-          es : step set here ≡ spending set w Stop (effect_does set (does set.program (own_of set.program m) i to l s w.heap) m x (u_frames links) w)
-          es = ap (λ (o : Option (Instr × ℕ)). spending set w Stop (found_does set o m l s x (u_frames links) w)) hf
+          es : step set here ≡ spending set w Stop (effect_does set (does set.program (own_of set.program m) i to l s w.heap) (frame m p l s) x (u_frames links) w)
+          es = ap (λ (o : Option (Instr × ℕ)). spending set w Stop (found_does set o (frame m p l s) x (u_frames links) w)) hf
 
-          ex : wstep set W marks call_state ≡ spending set w WStop (weffect set W marks true (handed up wl (does set.program (own_of set.program m) i to l s w.heap)) m b f1 w ps)
+          ex : wstep set W marks call_state ≡ spending set w WStop (weffect set W marks true (handed up wl (does set.program (own_of set.program m) i to l s w.heap)) (frame m ((form m).call_at p) wl (value.Fiber ∷ s)) b f1 w ps)
           ex = path.found set W marks most Q runs m ((form m).call_at p) wl (value.Fiber ∷ s) b f1 w ps i up true true (handed up wl (does set.program (own_of set.program m) i to l s w.heap)) grp.call refl (rows.hands m p i callee to up l wl s w.heap hf hp (known.old_heap m p l s x (u_frames links) w typed) (known.clean m p to i l s x (u_frames links) w typed hf))
 
           here_ok : Q call_state
@@ -424,10 +433,10 @@ module _ (set : Setting) (W : Program) (marks : List (List Bool)) (most : ℕ) (
           by : (t : Bool) → nat_le set.limits.steps w.done ≡ t → M (step set here) (suc (suc c)) call_state
           by true h =
               forward.both_end set W marks most Q runs members form facts rows enough (step set here) (suc (suc c)) m ((form m).call_at p) wl (value.Fiber ∷ s) b f1 w w ps cause.Spent (omega (arith, few, enough))
-              (es ∙ ap (λ (t : Bool). if t then ending set w Stop cause.Spent else effect_does set (does set.program (own_of set.program m) i to l s w.heap) m x (u_frames links) w) h)
-              (ex ∙ ap (λ (t : Bool). if t then ending set w WStop cause.Spent else weffect set W marks true (handed up wl (does set.program (own_of set.program m) i to l s w.heap)) m b f1 w ps) h) here_ok
+              (es ∙ ap (λ (t : Bool). if t then ending set w Stop cause.Spent else effect_does set (does set.program (own_of set.program m) i to l s w.heap) (frame m p l s) x (u_frames links) w) h)
+              (ex ∙ ap (λ (t : Bool). if t then ending set w WStop cause.Spent else weffect set W marks true (handed up wl (does set.program (own_of set.program m) i to l s w.heap)) (frame m ((form m).call_at p) wl (value.Fiber ∷ s)) b f1 w ps) h) here_ok
           by false h =
               shape_match (step set here) (does set.program (own_of set.program m) i to l s w.heap) refl (known.unstuck here typed) h refl
-              (es ∙ ap (λ (t : Bool). if t then ending set w Stop cause.Spent else effect_does set (does set.program (own_of set.program m) i to l s w.heap) m x (u_frames links) w) h)
-              (ex ∙ ap (λ (t : Bool). if t then ending set w WStop cause.Spent else weffect set W marks true (handed up wl (does set.program (own_of set.program m) i to l s w.heap)) m b f1 w ps) h)
+              (es ∙ ap (λ (t : Bool). if t then ending set w Stop cause.Spent else effect_does set (does set.program (own_of set.program m) i to l s w.heap) (frame m p l s) x (u_frames links) w) h)
+              (ex ∙ ap (λ (t : Bool). if t then ending set w WStop cause.Spent else weffect set W marks true (handed up wl (does set.program (own_of set.program m) i to l s w.heap)) (frame m ((form m).call_at p) wl (value.Fiber ∷ s)) b f1 w ps) h)
               (rows.shapes m i callee to l s w.heap hp) (known.room m p to i l s x (u_frames links) w typed hf) here_ok next_held

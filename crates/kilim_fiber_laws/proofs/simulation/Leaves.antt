@@ -2,6 +2,7 @@
 use Rattle.std.proofs.Common.{◌≡◌, ℕ, zero, suc, ◌+◌, ◌*◌, ◌≤◌, Bool, true, false, List, [], ◌∷◌, ◌++◌, Option, Some, None, refl, sym, ap, subst, ◌∙◌, arith}
 use Rattle.std.proofs.lemmas.Bool.{false≢true}
 use Rattle.std.specs.Prelude.{nat_le, if◌then◌else◌}
+use Rattle.kilim_run_state.specs.declared.cause.EndCause.{EndCause}
 use Rattle.kilim_run_state.specs.declared.cause.EndCause.TheVariants as cause
 use Rattle.kilim_program.specs.declared.class.Method.{Method}
 use Rattle.kilim_program.specs.declared.instr.Instr.{Instr}
@@ -15,9 +16,11 @@ use Rattle.kilim_run_machine.specs.Natives as native
 use Rattle.kilim_run_machine.specs.Effect.{Asks}
 use Rattle.kilim_run_model.specs.State.{Setting}
 use Rattle.kilim_fiber_spec.specs.Acts.{World, Lost, counted, ending, spending, native_does}
-use Rattle.kilim_fiber_spec.specs.Thread.{push, Frame, At, Thread, Run, Stop}
+use Rattle.kilim_fiber_spec.proofs.lone.Left.{behind_over}
+use Rattle.kilim_fiber_laws.proofs.simulation.Uncaught.{wbehind_over}
+use Rattle.kilim_fiber_spec.specs.Thread.{push, Frame, At, Thread, Run, Stop, raised_behind}
 use Rattle.kilim_run_machine.specs.Natives.{FiberMember}
-use Rattle.kilim_fiber_spec.specs.Fibers.{Fib, Fiber_at, Rec, Saved, empty_record, Woven_state, WRun, WStop, wstep, wasks, wnatives, wnative, gets, yields}
+use Rattle.kilim_fiber_spec.specs.Fibers.{Fib, Fiber_at, Rec, Saved, empty_record, Woven_state, WRun, WStop, wstep, wasks, wnatives, wnative, gets, yields, frame, wraised_behind}
 use Rattle.kilim_fiber_spec.specs.Form.{Facts, Members, longest}
 use Rattle.kilim_fiber_spec.specs.Rows.{handed}
 use Rattle.kilim_fiber_spec.specs.Runs.{stop, idle}
@@ -27,7 +30,7 @@ use Rattle.kilim_fiber_spec.specs.Links.{again, Link, Lk, u_frames, left_overs, 
 use Rattle.kilim_type_sound.specs.Fits.{AreThere}
 use Rattle.kilim_fiber_laws.proofs.simulation.Still.{StepIsKnown}
 use Rattle.kilim_fiber_laws.proofs.simulation.Paths as path
-use Rattle.kilim_fiber_laws.proofs.simulation.Natural.{Outcome, GoesOn, IsOver, fold, Counts, native_same}
+use Rattle.kilim_fiber_laws.proofs.simulation.Natural.{Outcome, GoesOn, IsOver, IsRaised, fold, Counts, native_same}
 use Rattle.kilim_fiber_laws.proofs.simulation.Unwinds.{count_of, push_low, rests}
 use Rattle.kilim_fiber_laws.proofs.simulation.Pauses as pause
 use Rattle.kilim_program.specs.declared.ty.Ty.{Ty}
@@ -89,6 +92,14 @@ module _ (set : Setting) (W : Program) (marks : List (List Bool)) (most : ℕ) (
   abbrev pub goes_on : MethodId → ℕ → List Value → List Value → List Activation → Fib → World → List ℕ → Option Value → Woven_state
   goes_on m q wl s b f2 a rest v = WRun m q wl (push v s) b f2 a rest
 
+  -- something is wrong with a value of the leaf
+  abbrev pub fails : World → List Link → EndCause → Thread
+  fails w [] why = Stop Lost
+  fails w (Lk m from to i callee s l wl self old was ∷ ks) why = raised_behind set (At m to l s self ∷ u_frames ks) w why
+
+  abbrev pub fails_on : MethodId → ℕ → List Value → List Value → List Activation → Fib → World → List ℕ → EndCause → Woven_state
+  fails_on m q wl s b = wraised_behind set W marks (frame m q wl s ∷ b)
+
   -- a leaf gives nothing away
   keeps_leaf : (leaf : Native) (box : Value) (r : Root) (n : ℕ) (first : List Value) (result : Option Ty) → LeafTakes set W marks form leaf first box result → given (Some leaf) (first ++ value.Fiber ∷ []) ≡ Some (r, n) → ⊥
   keeps_leaf native.Get box r n first result takes g = path.none_given (r, n) g
@@ -105,7 +116,7 @@ module _ (set : Setting) (W : Program) (marks : List (List Bool)) (most : ℕ) (
       → Good set W marks form (Lk m from to i callee s l wl self old was) → AreReady set W marks form w.heap (Leaf leaf) box (Lk m from to i callee s l wl self old was ∷ links)
       → (args : List Value) × LeafTakes set W marks form leaf args box callee.result
       × (wstep set W marks (at_leaf set W marks form box (Lk m from to i callee s l wl self old was) links w ps)
-      ≡ wnative set W marks (goes_on m ((form m).up_at from) wl s (w_frames set W marks form links)) leaf (args ++ value.Fiber ∷ []) (Fiber_at (Saved old was [] ∷ left_overs links) (Saved 0 box []) [] true false) w ps)
+      ≡ wnative set W marks (goes_on m ((form m).up_at from) wl s (w_frames set W marks form links)) (fails_on m ((form m).up_at from) wl s (w_frames set W marks form links)) leaf (args ++ value.Fiber ∷ []) (Fiber_at (Saved old was [] ∷ left_overs links) (Saved 0 box []) [] true false) w ps)
       × Q (at_leaf set W marks form box (Lk m from to i callee s l wl self old was) links w ps)
   calls_again box w leaf m from to i callee s l wl self old was links ps good ready =
       let redo = ready.0.3 in
@@ -120,8 +131,8 @@ module _ (set : Setting) (W : Program) (marks : List (List Bool)) (most : ℕ) (
         path.found set W marks most Q runs m ((form m).call_at from) wl (value.Fiber ∷ again callee box s) (w_frames set W marks form links) f2 w ps i q true false
             (Asks redo.0 (redo.1 ++ value.Fiber ∷ []) q wl s w.heap) g.call refl
             (rows.hands m from i callee to q wl wl (again callee box s) w.heap good.0 good.1 ready.0.4 ready.0.5 ∙ ap (handed q wl) (redo.2 wl s))
-            ∙ ap (λ (o : Option FiberMember). wasks set W marks (goes_on m q wl s (w_frames set W marks form links)) o (native_of W redo.0) (redo.1 ++ value.Fiber ∷ []) f2 w ps) nn.0
-            ∙ ap (λ (o : Option Native). wnatives set W marks (goes_on m q wl s (w_frames set W marks form links)) o (redo.1 ++ value.Fiber ∷ []) f2 w ps) (rows.same_natives redo.0 nn.0 ∙ redo.3),
+            ∙ ap (λ (o : Option FiberMember). wasks set W marks (goes_on m q wl s (w_frames set W marks form links)) (fails_on m q wl s (w_frames set W marks form links)) o (native_of W redo.0) (redo.1 ++ value.Fiber ∷ []) f2 w ps) nn.0
+            ∙ ap (λ (o : Option Native). wnatives set W marks (goes_on m q wl s (w_frames set W marks form links)) (fails_on m q wl s (w_frames set W marks form links)) o (redo.1 ++ value.Fiber ∷ []) f2 w ps) (rows.same_natives redo.0 nn.0 ∙ redo.3),
         runs m ((form m).call_at from) wl (value.Fiber ∷ again callee box s) (w_frames set W marks form links) f2 w ps
             (path.next_room set W marks m ((form m).call_at from) wl (value.Fiber ∷ again callee box s) (w_frames set W marks form links) f2 w ps i q true (Asks redo.0 (redo.1 ++ value.Fiber ∷ []) q wl s w.heap) g.call
             (rows.hands m from i callee to q wl wl (again callee box s) w.heap good.0 good.1 ready.0.4 ready.0.5 ∙ ap (handed q wl) (redo.2 wl s))
@@ -133,19 +144,19 @@ module _ (set : Setting) (W : Program) (marks : List (List Bool)) (most : ℕ) (
     -- it takes
     pub takes_match : (u : Thread) (c : ℕ) (m : MethodId) (from to : ℕ) (i : Instr) (callee : Method) (s l wl : List Value) (self : Value) (old : ℕ) (was : Value) (links : List Link) (stk : List Value) (r : Rec) (re : Bool) (ps rest : List ℕ)
         → c ≤ calm + 3 → Good set W marks form (Lk m from to i callee s l wl self old was) → Goods set W marks form links
-        → u ≡ native_does set w Stop (behind (Lk m from to i callee s l wl self old was ∷ links)) native.Get (box ∷ [])
+        → u ≡ native_does set w Stop (behind (Lk m from to i callee s l wl self old was ∷ links)) (fails w (Lk m from to i callee s l wl self old was ∷ links)) native.Get (box ∷ [])
         → wstep set W marks (WRun m ((form m).call_at from) wl stk (w_frames set W marks form links) (Fiber_at (Saved old was [] ∷ left_overs links) r [] re false) w ps)
-        ≡ spending set w WStop (native_does set w WStop (λ (a : World) (v : Option Value). goes_on m ((form m).up_at from) wl s (w_frames set W marks form links) (Fiber_at (Saved old was [] ∷ left_overs links) empty_record [] false false) a rest v) native.Get (box ∷ []))
+        ≡ spending set w WStop (native_does set w WStop (λ (a : World) (v : Option Value). goes_on m ((form m).up_at from) wl s (w_frames set W marks form links) (Fiber_at (Saved old was [] ∷ left_overs links) empty_record [] false false) a rest v) (fails_on m ((form m).up_at from) wl s (w_frames set W marks form links) (Fiber_at (Saved old was [] ∷ left_overs links) r [] re false) w rest) native.Get (box ∷ []))
         → Q (WRun m ((form m).call_at from) wl stk (w_frames set W marks form links) (Fiber_at (Saved old was [] ∷ left_overs links) r [] re false) w ps) → NextHeld set u → M u c (WRun m ((form m).call_at from) wl stk (w_frames set W marks form links) (Fiber_at (Saved old was [] ∷ left_overs links) r [] re false) w ps)
     takes_match u c m from to i callee s l wl self old was links stk r re ps rest few good goods eu ew q held =
-        let z = native_same set w Stop (behind (Lk m from to i callee s l wl self old was ∷ links)) native.Get (box ∷ []) in
-        let y = native_same set w WStop (λ (a : World) (v : Option Value). goes_on m ((form m).up_at from) wl s (w_frames set W marks form links) (Fiber_at (Saved old was [] ∷ left_overs links) empty_record [] false false) a rest v) native.Get (box ∷ []) in
-        by (native_does set w IsOver GoesOn native.Get (box ∷ [])) (eu ∙ z.0)
-        (ew ∙ ap (λ (b : Bool). if b then ending set w WStop cause.Spent else native_does set w WStop (λ (a : World) (v : Option Value). goes_on m ((form m).up_at from) wl s (w_frames set W marks form links) (Fiber_at (Saved old was [] ∷ left_overs links) empty_record [] false false) a rest v) native.Get (box ∷ [])) time ∙ y.0) z.1
+        let z = native_same set w Stop (behind (Lk m from to i callee s l wl self old was ∷ links)) (fails w (Lk m from to i callee s l wl self old was ∷ links)) native.Get (box ∷ []) in
+        let y = native_same set w WStop (λ (a : World) (v : Option Value). goes_on m ((form m).up_at from) wl s (w_frames set W marks form links) (Fiber_at (Saved old was [] ∷ left_overs links) empty_record [] false false) a rest v) (fails_on m ((form m).up_at from) wl s (w_frames set W marks form links) (Fiber_at (Saved old was [] ∷ left_overs links) r [] re false) w rest) native.Get (box ∷ []) in
+        by (native_does set w IsOver GoesOn IsRaised native.Get (box ∷ [])) (eu ∙ z.0)
+        (ew ∙ ap (λ (b : Bool). if b then ending set w WStop cause.Spent else native_does set w WStop (λ (a : World) (v : Option Value). goes_on m ((form m).up_at from) wl s (w_frames set W marks form links) (Fiber_at (Saved old was [] ∷ left_overs links) empty_record [] false false) a rest v) (fails_on m ((form m).up_at from) wl s (w_frames set W marks form links) (Fiber_at (Saved old was [] ∷ left_overs links) r [] re false) w rest) native.Get (box ∷ [])) time ∙ y.0) z.1
       where
-        by : (o : Outcome) → u ≡ fold Stop (behind (Lk m from to i callee s l wl self old was ∷ links)) o
+        by : (o : Outcome) → u ≡ fold Stop (behind (Lk m from to i callee s l wl self old was ∷ links)) (fails w (Lk m from to i callee s l wl self old was ∷ links)) o
             → wstep set W marks (WRun m ((form m).call_at from) wl stk (w_frames set W marks form links) (Fiber_at (Saved old was [] ∷ left_overs links) r [] re false) w ps)
-            ≡ fold WStop (λ (a : World) (v : Option Value). goes_on m ((form m).up_at from) wl s (w_frames set W marks form links) (Fiber_at (Saved old was [] ∷ left_overs links) empty_record [] false false) a rest v) o
+            ≡ fold WStop (λ (a : World) (v : Option Value). goes_on m ((form m).up_at from) wl s (w_frames set W marks form links) (Fiber_at (Saved old was [] ∷ left_overs links) empty_record [] false false) a rest v) (fails_on m ((form m).up_at from) wl s (w_frames set W marks form links) (Fiber_at (Saved old was [] ∷ left_overs links) r [] re false) w rest) o
             → Counts w o → M u c (WRun m ((form m).call_at from) wl stk (w_frames set W marks form links) (Fiber_at (Saved old was [] ∷ left_overs links) r [] re false) w ps)
         by (GoesOn a v) eu ew n =
             let ret = forward.returned set W marks most Q runs members form facts rows enough m from to i callee s (push v s) l wl self old was links empty_record 0 a rest good goods (push_low v s) (held.stack m to l (push v s) self (u_frames links) a eu) in
@@ -154,21 +165,24 @@ module _ (set : Setting) (W : Program) (marks : List (List Bool)) (most : ℕ) (
             (forward.counts set W marks most Q runs members form facts rows enough c m ((form m).call_at from) wl stk (w_frames set W marks form links) (Fiber_at (Saved old was [] ∷ left_overs links) r [] re false) w ps
             m ((form m).up_at from) wl (push v s) (w_frames set W marks form links) (Fiber_at (Saved old was [] ∷ left_overs links) empty_record [] false false) a rest (omega (arith, few, enough)) ew n q)
             ret.0) ret.1
+        by (IsRaised why) eu ew n =
+            forward.both_end set W marks most Q runs members form facts rows enough u c m ((form m).call_at from) wl stk (w_frames set W marks form links) (Fiber_at (Saved old was [] ∷ left_overs links) r [] re false) w (counted w) ps why (omega (arith, few, enough))
+            (eu ∙ behind_over set rows.none_catches.0 (At m to l s self ∷ u_frames links) w why) (ew ∙ wbehind_over set W marks rows.none_catches.1 (frame m ((form m).up_at from) wl s ∷ w_frames set W marks form links) (Fiber_at (Saved old was [] ∷ left_overs links) r [] re false) w rest why) q
         by (IsOver o) eu ew n = forward.both_over set W marks most Q runs members form facts rows enough u c m ((form m).call_at from) wl stk (w_frames set W marks form links) (Fiber_at (Saved old was [] ∷ left_overs links) r [] re false) w ps o (omega (arith, few, enough)) eu ew q
 
     pub to_links : (m : MethodId) (from to : ℕ) (i : Instr) (callee : Method) (s l wl : List Value) (self : Value) (old : ℕ) (was : Value) (links : List Link) → bares (Lk m from to i callee s l wl self old was ∷ links) ≡ sides
-        → native_does set w Stop (behind sides) native.Get (box ∷ []) ≡ native_does set w Stop (behind (Lk m from to i callee s l wl self old was ∷ links)) native.Get (box ∷ [])
+        → native_does set w Stop (behind sides) (fails w sides) native.Get (box ∷ []) ≡ native_does set w Stop (behind (Lk m from to i callee s l wl self old was ∷ links)) (fails w (Lk m from to i callee s l wl self old was ∷ links)) native.Get (box ∷ [])
     to_links m from to i callee s l wl self old was links e =
-        ap (λ (z : List Link). native_does set w Stop (behind z) native.Get (box ∷ [])) (sym e)
-        ∙ ap (λ (fs : List Frame). native_does set w Stop (λ (a : World) (v : Option Value). Run m to l (push v s) self fs a) native.Get (box ∷ [])) (frames_bare links)
+        ap (λ (z : List Link). native_does set w Stop (behind z) (fails w z) native.Get (box ∷ [])) (sym e)
+        ∙ ap (λ (fs : List Frame). native_does set w Stop (λ (a : World) (v : Option Value). Run m to l (push v s) self fs a) (raised_behind set (At m to l s self ∷ fs) w) native.Get (box ∷ [])) (frames_bare links)
 
     -- for each number of pauses
     pub gets_match : (n : ℕ) (rest : List ℕ) (u : Thread) (c : ℕ) (m : MethodId) (from to : ℕ) (i : Instr) (callee : Method) (s l wl : List Value) (self : Value) (old : ℕ) (was : Value) (links : List Link) (stk : List Value) (r : Rec) (re : Bool) (ps : List ℕ)
         → Rests native.Get box sides w → bares (Lk m from to i callee s l wl self old was ∷ links) ≡ sides → c ≤ calm + 3 → suc (count_of links) ≤ 512
         → Good set W marks form (Lk m from to i callee s l wl self old was) → Goods set W marks form links → AreReady set W marks form w.heap (Leaf native.Get) box (Lk m from to i callee s l wl self old was ∷ links)
-        → u ≡ native_does set w Stop (behind sides) native.Get (box ∷ [])
+        → u ≡ native_does set w Stop (behind sides) (fails w sides) native.Get (box ∷ [])
         → wstep set W marks (WRun m ((form m).call_at from) wl stk (w_frames set W marks form links) (Fiber_at (Saved old was [] ∷ left_overs links) r [] re false) w ps)
-        ≡ gets set W marks (goes_on m ((form m).up_at from) wl s (w_frames set W marks form links)) (box ∷ []) box (Fiber_at (Saved old was [] ∷ left_overs links) r [] re false) w (n ∷ rest)
+        ≡ gets set W marks (goes_on m ((form m).up_at from) wl s (w_frames set W marks form links)) (fails_on m ((form m).up_at from) wl s (w_frames set W marks form links)) (box ∷ []) box (Fiber_at (Saved old was [] ∷ left_overs links) r [] re false) w (n ∷ rest)
         → Q (WRun m ((form m).call_at from) wl stk (w_frames set W marks form links) (Fiber_at (Saved old was [] ∷ left_overs links) r [] re false) w ps) → NextHeld set u → M u c (WRun m ((form m).call_at from) wl stk (w_frames set W marks form links) (Fiber_at (Saved old was [] ∷ left_overs links) r [] re false) w ps)
     gets_match zero rest u c m from to i callee s l wl self old was links stk r re ps q e few deep good goods ready eu ew here_ok held =
         takes_match u c m from to i callee s l wl self old was links stk r re ps rest few good goods (eu ∙ to_links m from to i callee s l wl self old was links e) ew here_ok held
@@ -192,13 +206,13 @@ module _ (set : Setting) (W : Program) (marks : List (List Bool)) (most : ℕ) (
         next : (k : Link) (links : List Link) (d : ℕ) → bares (k ∷ links) ≡ sides → d ≤ calm + 3 → suc (count_of links) ≤ 512 → Good set W marks form k → Goods set W marks form links → AreReady set W marks form w.heap (Leaf native.Get) box (k ∷ links)
             → ((m : MethodId) (from to : ℕ) (i : Instr) (callee : Method) (s l wl : List Value) (self : Value) (old : ℕ) (was : Value) (links : List Link) (d : ℕ) → bares (Lk m from to i callee s l wl self old was ∷ links) ≡ sides → d ≤ calm + 3 → suc (count_of links) ≤ 512
             → Good set W marks form (Lk m from to i callee s l wl self old was) → Goods set W marks form links → AreReady set W marks form w.heap (Leaf native.Get) box (Lk m from to i callee s l wl self old was ∷ links)
-            → wstep set W marks (at_leaf set W marks form box (Lk m from to i callee s l wl self old was) links w (n ∷ rest)) ≡ gets set W marks (goes_on m ((form m).up_at from) wl s (w_frames set W marks form links)) (box ∷ []) box (Fiber_at (Saved old was [] ∷ left_overs links) (Saved 0 box []) [] true false) w (n ∷ rest)
+            → wstep set W marks (at_leaf set W marks form box (Lk m from to i callee s l wl self old was) links w (n ∷ rest)) ≡ gets set W marks (goes_on m ((form m).up_at from) wl s (w_frames set W marks form links)) (fails_on m ((form m).up_at from) wl s (w_frames set W marks form links)) (box ∷ []) box (Fiber_at (Saved old was [] ∷ left_overs links) (Saved 0 box []) [] true false) w (n ∷ rest)
             → Q (at_leaf set W marks form box (Lk m from to i callee s l wl self old was) links w (n ∷ rest)) → M u d (at_leaf set W marks form box (Lk m from to i callee s l wl self old was) links w (n ∷ rest)))
             → M u d (at_leaf set W marks form box k links w (n ∷ rest))
         next (Lk m from to i callee s l wl self old was) links d e few deep good goods ready again_get =
             let z = calls_again box w native.Get m from to i callee s l wl self old was links (n ∷ rest) good ready in
             again_get m from to i callee s l wl self old was links d e few deep good goods ready
-            (z.2 ∙ ap (λ (args : List Value). wnative set W marks (goes_on m ((form m).up_at from) wl s (w_frames set W marks form links)) native.Get (args ++ value.Fiber ∷ []) (Fiber_at (Saved old was [] ∷ left_overs links) (Saved 0 box []) [] true false) w (n ∷ rest)) z.1.0) z.3
+            (z.2 ∙ ap (λ (args : List Value). wnative set W marks (goes_on m ((form m).up_at from) wl s (w_frames set W marks form links)) (fails_on m ((form m).up_at from) wl s (w_frames set W marks form links)) native.Get (args ++ value.Fiber ∷ []) (Fiber_at (Saved old was [] ∷ left_overs links) (Saved 0 box []) [] true false) w (n ∷ rest)) z.1.0) z.3
 
   -- a `yield` counts, rests once, and goes on
   pub yields_match : (w : World) (sides : List Link) (u : Thread) (c : ℕ) (m : MethodId) (from to : ℕ) (i : Instr) (callee : Method) (s l wl : List Value) (self : Value) (old : ℕ) (was : Value) (links : List Link) (stk : List Value) (r : Rec) (ps : List ℕ)
@@ -206,7 +220,7 @@ module _ (set : Setting) (W : Program) (marks : List (List Bool)) (most : ℕ) (
       → Good set W marks form (Lk m from to i callee s l wl self old was) → Goods set W marks form links → AreReady set W marks form w.heap (Leaf native.Yield) value.Null (Lk m from to i callee s l wl self old was ∷ links)
       → u ≡ behind sides (counted w) None
       → wstep set W marks (WRun m ((form m).call_at from) wl stk (w_frames set W marks form links) (Fiber_at (Saved old was [] ∷ left_overs links) r [] false false) w ps)
-      ≡ yields set W marks (goes_on m ((form m).up_at from) wl s (w_frames set W marks form links)) (Fiber_at (Saved old was [] ∷ left_overs links) r [] false false) w ps
+      ≡ yields set W marks (goes_on m ((form m).up_at from) wl s (w_frames set W marks form links)) (fails_on m ((form m).up_at from) wl s (w_frames set W marks form links)) (Fiber_at (Saved old was [] ∷ left_overs links) r [] false false) w ps
       → Q (WRun m ((form m).call_at from) wl stk (w_frames set W marks form links) (Fiber_at (Saved old was [] ∷ left_overs links) r [] false false) w ps) → M u c (WRun m ((form m).call_at from) wl stk (w_frames set W marks form links) (Fiber_at (Saved old was [] ∷ left_overs links) r [] false false) w ps)
   yields_match w sides u c m from to i callee s l wl self old was links stk r ps kept q e few deep good goods ready eu ew here_ok =
       let k = Lk m from to i callee s l wl self old was in
@@ -227,7 +241,7 @@ module _ (set : Setting) (W : Program) (marks : List (List Bool)) (most : ℕ) (
           let w2 = counted w in
           let z = calls_again value.Null w2 native.Yield m from to i callee s l wl self old was links ps good ready in
           let ret = forward.returned set W marks most Q runs members form facts rows enough m from to i callee s s l wl self old was links empty_record (suc d) w2 ps good goods (omega arith) (all_there W w.heap (below (plan_of set W marks form m) callee from) s ready.0.0) in
-          let ez = z.2 ∙ ap (λ (args : List Value). wnative set W marks (goes_on m ((form m).up_at from) wl s (w_frames set W marks form links)) native.Yield (args ++ value.Fiber ∷ []) (Fiber_at (Saved old was [] ∷ left_overs links) (Saved 0 value.Null []) [] true false) w2 ps) z.1.0 in
+          let ez = z.2 ∙ ap (λ (args : List Value). wnative set W marks (goes_on m ((form m).up_at from) wl s (w_frames set W marks form links)) (fails_on m ((form m).up_at from) wl s (w_frames set W marks form links)) native.Yield (args ++ value.Fiber ∷ []) (Fiber_at (Saved old was [] ∷ left_overs links) (Saved 0 value.Null []) [] true false) w2 ps) z.1.0 in
           Goes_on (Fw m to s l wl self [] links old was w2 ps)
           (eu ∙ ap (λ (v : List Link). behind v w2 None) (sym e) ∙ ap (λ (fs : List Frame). Run m to l s self fs w2) (frames_bare links))
           (suc (suc (suc (suc d)))) (omega (arith, few))

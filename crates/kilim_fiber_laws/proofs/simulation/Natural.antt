@@ -22,15 +22,19 @@ use Rattle.kilim_fiber_spec.specs.Acts.{World, Over, Wants, Action, Puts, PutWai
 pub data Outcome : Type 0 where
   GoesOn : (after : World) (result : Option Value) → Outcome
   IsOver : Over → Outcome
+  -- something is wrong with a value
+  IsRaised : (cause : EndCause) → Outcome
 
-abbrev pub fold : {S : Type 0} → (Over → S) → (World → Option Value → S) → Outcome → S
-fold over go (GoesOn after v) = go after v
-fold over go (IsOver o) = over o
+abbrev pub fold : {S : Type 0} → (Over → S) → (World → Option Value → S) → (EndCause → S) → Outcome → S
+fold over go raise (GoesOn after v) = go after v
+fold over go raise (IsOver o) = over o
+fold over go raise (IsRaised why) = raise why
 
 -- one instruction more is done
 abbrev pub Counts : World → Outcome → Type 0
 Counts w (GoesOn after v) = after.done ≡ w.done + 1
 Counts w (IsOver o) = Unit {0}
+Counts w (IsRaised why) = Unit {0}
 
 module _ {S : Type 0} (set : Setting) (w : World) (over : Over → S) where
   -- the end
@@ -48,9 +52,9 @@ module _ {S : Type 0} (set : Setting) (w : World) (over : Over → S) where
       by [] = refl
       by (deed ∷ rest) = last_is c rest
 
-module _ {S : Type 0} (set : Setting) (w : World) (over : Over → S) (go : World → Option Value → S) where
+module _ {S : Type 0} (set : Setting) (w : World) (over : Over → S) (go : World → Option Value → S) (raise : EndCause → S) where
   abbrev FO : Outcome → S
-  FO = fold over go
+  FO = fold over go raise
 
   abbrev Same : S → Outcome → Type 0
   Same x o = (x ≡ FO o) × Counts w o
@@ -83,8 +87,8 @@ module _ {S : Type 0} (set : Setting) (w : World) (over : Over → S) (go : Worl
   puts_same box n None = end_same cause.Large
   puts_same box n (Some shape) = acting_same (Puts box n shape) _ _ (λ d rest. put_same box shape n d.act rest)
 
-  puts_value_same : (box : BoxName) (v : Value) → Same (puts_value set w over go box v) (puts_value set w IsOver GoesOn box v)
-  puts_value_same box Null = end_same cause.Null
+  puts_value_same : (box : BoxName) (v : Value) → Same (puts_value set w over go raise box v) (puts_value set w IsOver GoesOn IsRaised box v)
+  puts_value_same box Null = (refl, tt)
   puts_value_same box (Ref n) = puts_same box n (shape_of set.program w.heap n)
   puts_value_same box v = (refl, tt)
 
@@ -96,15 +100,15 @@ module _ {S : Type 0} (set : Setting) (w : World) (over : Over → S) (go : Worl
   put_waits_same box n None = end_same cause.Large
   put_waits_same box n (Some shape) = acting_same (PutWaits box n shape) _ _ (λ d rest. put_wait_same box shape n d.act rest)
 
-  waits_value_same : (box : BoxName) (v : Value) → Same (waits_value set w over go box v) (waits_value set w IsOver GoesOn box v)
-  waits_value_same box Null = end_same cause.Null
+  waits_value_same : (box : BoxName) (v : Value) → Same (waits_value set w over go raise box v) (waits_value set w IsOver GoesOn IsRaised box v)
+  waits_value_same box Null = (refl, tt)
   waits_value_same box (Ref n) = put_waits_same box n (shape_of set.program w.heap n)
   waits_value_same box v = (refl, tt)
 
-  bounds_same : (box : BoxName) (i : ℤ) → Same (bounds set w over go box i) (bounds set w IsOver GoesOn box i)
+  bounds_same : (box : BoxName) (i : ℤ) → Same (bounds set w over go raise box i) (bounds set w IsOver GoesOn IsRaised box i)
   bounds_same box (pos (suc n)) = acting_same (Bounds box (suc n)) _ _ (λ d rest. (refl, refl))
-  bounds_same box (pos zero) = end_same cause.Size
-  bounds_same box (negsuc n) = end_same cause.Size
+  bounds_same box (pos zero) = (refl, tt)
+  bounds_same box (negsuc n) = (refl, tt)
 
   start_same : (shape : List Token) (n : ℕ) (act : Act) (rest : List Deed) → Same (start_by set w over go shape n act rest) (start_by set w IsOver GoesOn shape n act rest)
   start_same shape n (Start t s) rest = (refl, refl)
@@ -137,12 +141,12 @@ module _ {S : Type 0} (set : Setting) (w : World) (over : Over → S) (go : Worl
   prints_same None = (refl, tt)
   prints_same (Some t) = acting_same (Prints t) _ _ (λ d rest. (refl, refl))
 
-  arg_same : (o : Option ℤ) → Same (gives_arg set w over go o) (gives_arg set w IsOver GoesOn o)
-  arg_same None = end_same cause.Index
+  arg_same : (o : Option ℤ) → Same (gives_arg set w over go raise o) (gives_arg set w IsOver GoesOn IsRaised o)
+  arg_same None = (refl, tt)
   arg_same (Some n) = (refl, refl)
 
   -- one case distinction for all
-  pub native_same : (n : Native) (args : List Value) → Same (native_does set w over go n args) (native_does set w IsOver GoesOn n args)
+  pub native_same : (n : Native) (args : List Value) → Same (native_does set w over go raise n args) (native_does set w IsOver GoesOn IsRaised n args)
   native_same native.Execute (Ref n ∷ []) = (refl, refl)
   native_same native.Start (Ref n ∷ []) = starts_same n (shape_of set.program w.heap n)
   native_same native.Put (Box box ∷ message ∷ []) = puts_value_same box message

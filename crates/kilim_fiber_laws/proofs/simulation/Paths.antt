@@ -1,5 +1,5 @@
 -- Paths of the woven machine: joining them, and single instructions.
-use Rattle.std.proofs.Common.{◌≡◌, ℕ, suc, ◌+◌, ◌<◌, ◌≤◌, Bool, true, false, not, ◌&&◌, List, length, Option, Some, None, refl, sym, ap, subst, ◌∙◌, arith}
+use Rattle.std.proofs.Common.{◌≡◌, ℕ, suc, ◌+◌, ◌<◌, ◌≤◌, Bool, true, false, not, ◌&&◌, List, ◌∷◌, length, Option, Some, None, refl, sym, ap, subst, ◌∙◌, arith}
 use Rattle.kilim_program.specs.declared.instr.Instr.{Instr}
 use Rattle.kilim_program.specs.declared.names.MethodId.{MethodId}
 use Rattle.kilim_program.specs.declared.value.Value.{Value}
@@ -16,7 +16,7 @@ use Rattle.kilim_weave_spec.specs.Woven.{Item}
 use Rattle.kilim_fiber_spec.specs.Acts.{World}
 use Rattle.kilim_fiber_spec.specs.Thread.{push, own_of}
 use Rattle.kilim_run_machine.specs.Natives.{FiberMember}
-use Rattle.kilim_fiber_spec.specs.Fibers.{Fib, as_member, is_pausing, is_rewinding, member_of, member_does, Woven_state, WRun, WStop, wfetch, wstep, wfound, weffect, spending_if, wasks}
+use Rattle.kilim_fiber_spec.specs.Fibers.{Fib, as_member, is_pausing, is_rewinding, member_of, member_does, Woven_state, WRun, WStop, wfetch, wstep, wfound, weffect, spending_if, wasks, frame, wraised_behind}
 use Rattle.kilim_fiber_spec.specs.Acts.{Lost}
 use Rattle.kilim_fiber_spec.specs.Form.{HasAt}
 use Rattle.kilim_fiber_spec.specs.Runs.{Comes, stop, idle, mark}
@@ -92,16 +92,16 @@ module _ (set : Setting) (W : Program) (marks : List (List Bool)) (most : ℕ) (
   -- the instruction there is done
   pub found : (m : MethodId) (p : ℕ) (l s : List Value) (b : List Activation) (f : Fib) (w : World) (ps : List ℕ) (i : Instr) (nx : ℕ) (mk counts : Bool) (e : Effect)
       → wfetch set W marks m p ≡ Some (i, nx, mk) → (mk && not (is_rewinding f)) ≡ counts → does W (own_of W m) i nx l s w.heap ≡ e
-      → wstep set W marks (WRun m p l s b f w ps) ≡ spending_if set W marks counts w (weffect set W marks counts e m b f w ps)
+      → wstep set W marks (WRun m p l s b f w ps) ≡ spending_if set W marks counts w (weffect set W marks counts e (frame m p l s) b f w ps)
   found m p l s b f w ps i nx mk counts e h n d =
-      ap (λ o. wfound set W marks o m l s b f w ps) h
-      ∙ ap (λ (c : Bool). spending_if set W marks c w (weffect set W marks c (does W (own_of W m) i nx l s w.heap) m b f w ps)) n
-      ∙ ap (λ (z : Effect). spending_if set W marks counts w (weffect set W marks counts z m b f w ps)) d
+      ap (λ o. wfound set W marks o (frame m p l s) b f w ps) h
+      ∙ ap (λ (c : Bool). spending_if set W marks c w (weffect set W marks c (does W (own_of W m) i nx l s w.heap) (frame m p l s) b f w ps)) n
+      ∙ ap (λ (z : Effect). spending_if set W marks counts w (weffect set W marks counts z (frame m p l s) b f w ps)) d
 
   -- one uncounted instruction
   pub one : (c : ℕ) (m : MethodId) (p : ℕ) (l s : List Value) (b : List Activation) (f : Fib) (w : World) (ps : List ℕ) (i : Instr) (nx : ℕ) (mk : Bool) (e : Effect)
-      → wfetch set W marks m p ≡ Some (i, nx, mk) → (mk && not (is_rewinding f)) ≡ false → does W (own_of W m) i nx l s w.heap ≡ e → Roomy set.program W m b w.heap e → AreThere w.heap s → (is_pausing f ≡ true → IsStill w ps (weffect set W marks false e m b f w ps))
-      → To c (WRun m p l s b f w ps) (suc c) (weffect set W marks false e m b f w ps)
+      → wfetch set W marks m p ≡ Some (i, nx, mk) → (mk && not (is_rewinding f)) ≡ false → does W (own_of W m) i nx l s w.heap ≡ e → Roomy set.program W m b w.heap e → AreThere w.heap s → (is_pausing f ≡ true → IsStill w ps (weffect set W marks false e (frame m p l s) b f w ps))
+      → To c (WRun m p l s b f w ps) (suc c) (weffect set W marks false e (frame m p l s) b f w ps)
   one c m p l s b f w ps i nx mk e h n d r th still =
       idle (runs m p l s b f w ps (next_room set W marks m p l s b f w ps i nx mk e h d r (λ on. subst (λ (y : Woven_state). IsStill w ps y) (sym (found m p l s b f w ps i nx mk false e h n d)) (still on))) th) (subst (λ (z : Woven_state). To (suc c) (wstep set W marks (WRun m p l s b f w ps)) (suc c) z) (found m p l s b f w ps i nx mk false e h n d) stop)
 
@@ -110,9 +110,9 @@ module _ (set : Setting) (W : Program) (marks : List (List Bool)) (most : ℕ) (
       → wfetch set W marks m p ≡ Some (i, nx, false) → does W (own_of W m) i nx l s w.heap ≡ Asks id args nx l s2 w.heap → member_of W id ≡ Some k → length s2 < stack_limit W m → AreThere w.heap s
       → To c (WRun m p l s b f w ps) (suc c) (member_does (WStop Lost) (λ (f2 : Fib) (v : Option Value). WRun m nx l (push v s2) b f2 w ps) k args f)
   calls c m p l s s2 b f w ps i nx id args k h d e r th =
-      subst (λ (o : Option FiberMember). To c (WRun m p l s b f w ps) (suc c) (wasks set W marks (λ (f2 : Fib) (after : World) (rest : List ℕ) (v : Option Value). WRun m nx l (push v s2) b f2 after rest) o (native_of W id) args f w ps)) e
+      subst (λ (o : Option FiberMember). To c (WRun m p l s b f w ps) (suc c) (wasks set W marks (λ (f2 : Fib) (after : World) (rest : List ℕ) (v : Option Value). WRun m nx l (push v s2) b f2 after rest) (wraised_behind set W marks (frame m nx l s2 ∷ b)) o (native_of W id) args f w ps)) e
       (one c m p l s b f w ps i nx false (Asks id args nx l s2 w.heap) h refl d (asks_room set.program W m b w.heap id args nx l s2 w.heap r (λ root n g. keeps_all (native_of W id) k args root n e g)) th
-      (λ on. subst (λ (o : Option FiberMember). IsStill w ps (wasks set W marks (λ (f2 : Fib) (after : World) (rest : List ℕ) (v : Option Value). WRun m nx l (push v s2) b f2 after rest) o (native_of W id) args f w ps)) (sym e) (member_still nx m l s2 b w ps k args f on)))
+      (λ on. subst (λ (o : Option FiberMember). IsStill w ps (wasks set W marks (λ (f2 : Fib) (after : World) (rest : List ℕ) (v : Option Value). WRun m nx l (push v s2) b f2 after rest) (wraised_behind set W marks (frame m nx l s2 ∷ b)) o (native_of W id) args f w ps)) (sym e) (member_still nx m l s2 b w ps k args f on)))
 
   -- from x the machine comes to a place of m where `rest` stands, with at most as many instructions as there are places between
   pub record Reach (m : MethodId) (rest : List Item) (c q : ℕ) (x : Woven_state) (l s : List Value) (b : List Activation) (f : Fib) (w : World) (ps : List ℕ) : Type 0 where

@@ -20,9 +20,12 @@ use Rattle.kilim_run_state.specs.Machine.{slots_of}
 use Rattle.kilim_run_machine.specs.Moves.{entered, frame_limit}
 use Rattle.kilim_run_model.specs.State.{Setting}
 use Rattle.kilim_fiber_spec.specs.Acts.{World, Lost, counted, with_heap, ending, native_does, asks, opens_box}
-use Rattle.kilim_fiber_spec.specs.Thread.{push, At, Thread, Run, Stop, self_of, effect_does, calls, returns, finishes, begins, begins_in}
+use Rattle.kilim_fiber_spec.proofs.lone.Left.{behind_over, raises_over, throws_over}
+use Rattle.kilim_fiber_laws.proofs.simulation.Uncaught.{wbehind_over, wraises_over, wthrows_over}
+use Rattle.kilim_run_machine.specs.Raising.{index_at, raised_class}
+use Rattle.kilim_fiber_spec.specs.Thread.{push, At, Thread, Run, Stop, self_of, effect_does, calls, returns, finishes, begins, begins_in, raised_behind}
 use Rattle.kilim_run_machine.specs.Natives.{FiberMember}
-use Rattle.kilim_fiber_spec.specs.Fibers.{Fib, Fiber_at, Saved, member_of, Woven_state, WRun, WStop, wstep, weffect, wcalls, wreturns, wfinishes, wbegins, wbegins_in, wasks, wnatives, wnative, frame}
+use Rattle.kilim_fiber_spec.specs.Fibers.{Fib, Fiber_at, Saved, member_of, Woven_state, WRun, WStop, wstep, weffect, wcalls, wreturns, wfinishes, wbegins, wbegins_in, wasks, wnatives, wnative, wraised_behind, frame}
 use Rattle.kilim_fiber_spec.specs.Form.{Facts, Starts, Members, longest, is_pausable}
 use Rattle.kilim_fiber_spec.specs.Rows.{elsewhere}
 use Rattle.kilim_fiber_spec.specs.Serves.{Rows, Twins, is_pausing_native}
@@ -30,7 +33,7 @@ use Rattle.kilim_fiber_spec.specs.Links.{Link, Lk, PLink, Pk, u_frames, u_stack,
 use Rattle.kilim_type_sound.specs.Fits.{AreThere}
 use Rattle.kilim_fiber_laws.proofs.simulation.Still.{StepIsKnown}
 use Rattle.kilim_fiber_laws.proofs.simulation.Paths as path
-use Rattle.kilim_fiber_laws.proofs.simulation.Natural.{Outcome, GoesOn, IsOver, fold, Counts, native_same, opens_same}
+use Rattle.kilim_fiber_laws.proofs.simulation.Natural.{Outcome, GoesOn, IsOver, IsRaised, fold, Counts, native_same, opens_same}
 use Rattle.kilim_fiber_laws.proofs.simulation.Forward.{calm, Match, Goes_on}
 use Rattle.kilim_fiber_laws.proofs.simulation.Forward as forward
 use Rattle.kilim_fiber_laws.proofs.simulation.Unwinds.{push_low}
@@ -52,13 +55,13 @@ module _ (set : Setting) (W : Program) (marks : List (List Bool)) (most : ℕ) (
   To c x d y = path.To set W marks most Q runs c x d y
 
   -- a native that doesn't pause is done as in the unwoven program
-  plain_native : (go : Fib → World → List ℕ → Option Value → Woven_state) (n : Native) (args : List Value) (f : Fib) (w : World) (ps : List ℕ) → is_pausing_native n ≡ false
-      → wnative set W marks go n args f w ps ≡ native_does set w WStop (λ (a : World) (v : Option Value). go f a ps v) n args
-  plain_native go native.Get args f w ps h = absurd (false≢true (sym h))
-  plain_native go native.Yield args f w ps h = absurd (false≢true (sym h))
-  plain_native go native.PutWait args f w ps h = absurd (false≢true (sym h))
-  plain_native go native.Execute args f w ps h = absurd (false≢true (sym h))
-  plain_native go n args f w ps h = refl
+  plain_native : (go : Fib → World → List ℕ → Option Value → Woven_state) (raise : Fib → World → List ℕ → EndCause → Woven_state) (n : Native) (args : List Value) (f : Fib) (w : World) (ps : List ℕ) → is_pausing_native n ≡ false
+      → wnative set W marks go raise n args f w ps ≡ native_does set w WStop (λ (a : World) (v : Option Value). go f a ps v) (raise f w ps) n args
+  plain_native go raise native.Get args f w ps h = absurd (false≢true (sym h))
+  plain_native go raise native.Yield args f w ps h = absurd (false≢true (sym h))
+  plain_native go raise native.PutWait args f w ps h = absurd (false≢true (sym h))
+  plain_native go raise native.Execute args f w ps h = absurd (false≢true (sym h))
+  plain_native go raise n args f w ps h = refl
 
   module _ (c : ℕ) (few : c ≤ calm) (m : MethodId) (p : ℕ) (l s wl : List Value) (x : Value) (ov : List PLink) (links : List Link) (old : ℕ) (was : Value) (w : World) (ps : List ℕ) (fine : Fine_at set W marks form m p l wl x ov links)
       (here_ok : Q (WRun m ((form m).at p) wl s (w_stack set W marks form ov links) (Fiber_at (left_overs links) (Saved old was []) [] false false) w ps)) where
@@ -87,27 +90,29 @@ module _ (set : Setting) (W : Program) (marks : List (List Bool)) (most : ℕ) (
         forward.on set W marks most Q runs members form facts rows enough u c m ((form m).at p) wl s b f w ps m2 p2 s2 l2 wl2 x2 ov2 links old was w2 ps room eu ew d fine2 here_ok
 
     -- an outcome of a native, a new mailbox
-    outcome : (u : Thread) (q : ℕ) (s2 l2 wl2 : List Value) (o : Outcome)
-        → u ≡ fold Stop (λ (a : World) (v : Option Value). Run m q l2 (push v s2) x (u_stack ov links) a) o
-        → wstep set W marks here ≡ fold WStop (λ (a : World) (v : Option Value). WRun m ((form m).at q) wl2 (push v s2) b f a ps) o
+    outcome : (v : World) (u : Thread) (q : ℕ) (s2 l2 wl2 : List Value) (o : Outcome)
+        → u ≡ fold Stop (λ (a : World) (v : Option Value). Run m q l2 (push v s2) x (u_stack ov links) a) (raised_behind set (At m q l2 s2 x ∷ u_stack ov links) v) o
+        → wstep set W marks here ≡ fold WStop (λ (a : World) (v : Option Value). WRun m ((form m).at q) wl2 (push v s2) b f a ps) (wraised_behind set W marks (frame m ((form m).at q) wl2 s2 ∷ b) f v ps) o
         → Counts w o → Fine_at set W marks form m q l2 wl2 x ov links → M u c here
-    outcome u q s2 l2 wl2 (GoesOn a v) eu ew n fine2 = on u m q (push v s2) l2 wl2 x ov old was a eu ew n fine2
-    outcome u q s2 l2 wl2 (IsOver o) eu ew n fine2 = forward.both_over set W marks most Q runs members form facts rows enough u c m ((form m).at p) wl s b f w ps o room1 eu ew here_ok
+    outcome v u q s2 l2 wl2 (GoesOn a y) eu ew n fine2 = on u m q (push y s2) l2 wl2 x ov old was a eu ew n fine2
+    outcome v u q s2 l2 wl2 (IsOver o) eu ew n fine2 = forward.both_over set W marks most Q runs members form facts rows enough u c m ((form m).at p) wl s b f w ps o room1 eu ew here_ok
+    outcome v u q s2 l2 wl2 (IsRaised why) eu ew n fine2 =
+        ends u (counted v) why (eu ∙ behind_over set rows.none_catches.0 (At m q l2 s2 x ∷ u_stack ov links) v why) (ew ∙ wbehind_over set W marks rows.none_catches.1 (frame m ((form m).at q) wl2 s2 ∷ b) f v ps why)
 
     natives : (u : Thread) (o n2 : Option Native) (mem : Option FiberMember) (args : List Value) (q : ℕ) (s2 l2 wl2 : List Value) (heap : Objects)
         → u ≢ Stop Lost → mem ≡ None → n2 ≡ o → ((n : Native) → o ≡ Some n → is_pausing_native n ≡ false)
-        → u ≡ asks set (with_heap w heap) Stop (λ (a : World) (v : Option Value). Run m q l2 (push v s2) x (u_stack ov links) a) o args
-        → wstep set W marks here ≡ wasks set W marks (λ (f2 : Fib) (a : World) (rest : List ℕ) (v : Option Value). WRun m ((form m).at q) wl2 (push v s2) b f2 a rest) mem n2 args f (with_heap w heap) ps
+        → u ≡ asks set (with_heap w heap) Stop (λ (a : World) (v : Option Value). Run m q l2 (push v s2) x (u_stack ov links) a) (raised_behind set (At m q l2 s2 x ∷ u_stack ov links) (with_heap w heap)) o args
+        → wstep set W marks here ≡ wasks set W marks (λ (f2 : Fib) (a : World) (rest : List ℕ) (v : Option Value). WRun m ((form m).at q) wl2 (push v s2) b f2 a rest) (wraised_behind set W marks (frame m ((form m).at q) wl2 s2 ∷ b)) mem n2 args f (with_heap w heap) ps
         → Fine_at set W marks form m q l2 wl2 x ov links → M u c here
     natives u None n2 mem args q s2 l2 wl2 heap ok em en np eu ew fine2 = absurd (ok eu)
     natives u (Some n) n2 mem args q s2 l2 wl2 heap ok em en np eu ew fine2 =
         let go = λ (f2 : Fib) (a : World) (rest : List ℕ) (v : Option Value). WRun m ((form m).at q) wl2 (push v s2) b f2 a rest in
-        let z = native_same set (with_heap w heap) Stop (λ (a : World) (v : Option Value). Run m q l2 (push v s2) x (u_stack ov links) a) n args in
-        let y = native_same set (with_heap w heap) WStop (λ (a : World) (v : Option Value). WRun m ((form m).at q) wl2 (push v s2) b f a ps) n args in
-        outcome u q s2 l2 wl2 (native_does set (with_heap w heap) IsOver GoesOn n args) (eu ∙ z.0)
-        (ew ∙ ap (λ (k : Option FiberMember). wasks set W marks (λ (f2 : Fib) (a : World) (rest : List ℕ) (v : Option Value). WRun m ((form m).at q) wl2 (push v s2) b f2 a rest) k n2 args f (with_heap w heap) ps) em
-        ∙ ap (λ (k : Option Native). wnatives set W marks (λ (f2 : Fib) (a : World) (rest : List ℕ) (v : Option Value). WRun m ((form m).at q) wl2 (push v s2) b f2 a rest) k args f (with_heap w heap) ps) en
-        ∙ plain_native (λ (f2 : Fib) (a : World) (rest : List ℕ) (v : Option Value). WRun m ((form m).at q) wl2 (push v s2) b f2 a rest) n args f (with_heap w heap) ps (np n refl) ∙ y.0)
+        let z = native_same set (with_heap w heap) Stop (λ (a : World) (v : Option Value). Run m q l2 (push v s2) x (u_stack ov links) a) (raised_behind set (At m q l2 s2 x ∷ u_stack ov links) (with_heap w heap)) n args in
+        let y = native_same set (with_heap w heap) WStop (λ (a : World) (v : Option Value). WRun m ((form m).at q) wl2 (push v s2) b f a ps) (wraised_behind set W marks (frame m ((form m).at q) wl2 s2 ∷ b) f (with_heap w heap) ps) n args in
+        outcome (with_heap w heap) u q s2 l2 wl2 (native_does set (with_heap w heap) IsOver GoesOn IsRaised n args) (eu ∙ z.0)
+        (ew ∙ ap (λ (k : Option FiberMember). wasks set W marks (λ (f2 : Fib) (a : World) (rest : List ℕ) (v : Option Value). WRun m ((form m).at q) wl2 (push v s2) b f2 a rest) (wraised_behind set W marks (frame m ((form m).at q) wl2 s2 ∷ b)) k n2 args f (with_heap w heap) ps) em
+        ∙ ap (λ (k : Option Native). wnatives set W marks (λ (f2 : Fib) (a : World) (rest : List ℕ) (v : Option Value). WRun m ((form m).at q) wl2 (push v s2) b f2 a rest) (wraised_behind set W marks (frame m ((form m).at q) wl2 s2 ∷ b)) k args f (with_heap w heap) ps) en
+        ∙ plain_native (λ (f2 : Fib) (a : World) (rest : List ℕ) (v : Option Value). WRun m ((form m).at q) wl2 (push v s2) b f2 a rest) (wraised_behind set W marks (frame m ((form m).at q) wl2 s2 ∷ b)) n args f (with_heap w heap) ps (np n refl) ∙ y.0)
         z.1 fine2
 
     -- a call of a method that isn't pausable
@@ -211,14 +216,14 @@ module _ (set : Setting) (W : Program) (marks : List (List Bool)) (most : ℕ) (
 
   pub effects : (begin_takes : (k : MethodId) (n : ℕ) → execute_of set.program set.main ≡ Some k → Takes set W marks form k (value.Ref n ∷ []) (value.Ref n))
       → (c : ℕ) → (few : c ≤ calm) → (m : MethodId) (p : ℕ) (l s wl : List Value) (x : Value) (ov : List PLink) (links : List Link) (old : ℕ) (was : Value) (w : World) (ps : List ℕ) (u : Thread) (e d : Effect)
-      → (fine : Fine_at set W marks form m p l wl x ov links) → Twins set W marks form m l wl x e d → u ≢ Stop Lost → u ≡ effect_does set e m x (u_stack ov links) w
+      → (fine : Fine_at set W marks form m p l wl x ov links) → Twins set W marks form m l wl x e d → u ≢ Stop Lost → u ≡ effect_does set e (frame m p l s) x (u_stack ov links) w
       → (here_ok : Q (WRun m ((form m).at p) wl s (w_stack set W marks form ov links) (Fiber_at (left_overs links) (Saved old was []) [] false false) w ps)) → NextHeld set u
-      → wstep set W marks (here c few m p l s wl x ov links old was w ps fine here_ok) ≡ weffect set W marks true d m (w_stack set W marks form ov links) (Fiber_at (left_overs links) (Saved old was []) [] false false) w ps
+      → wstep set W marks (here c few m p l s wl x ov links old was w ps fine here_ok) ≡ weffect set W marks true d (frame m ((form m).at p) wl s) (w_stack set W marks form ov links) (Fiber_at (left_overs links) (Saved old was []) [] false false) w ps
       → M u c (here c few m p l s wl x ov links old was w ps fine here_ok)
-  effects begin_takes c few m p l s wl x ov links old was w ps u e d fine tw ok eu here_ok held ew = by e tw eu (ew ∙ ap (λ (z : Effect). weffect set W marks true z m (w_stack set W marks form ov links) (Fiber_at (left_overs links) (Saved old was []) [] false false) w ps) tw.same)
+  effects begin_takes c few m p l s wl x ov links old was w ps u e d fine tw ok eu here_ok held ew = by e tw eu (ew ∙ ap (λ (z : Effect). weffect set W marks true z (frame m ((form m).at p) wl s) (w_stack set W marks form ov links) (Fiber_at (left_overs links) (Saved old was []) [] false false) w ps) tw.same)
     where
-      by : (e : Effect) → (tw : Twins set W marks form m l wl x e d) → u ≡ effect_does set e m x (u_stack ov links) w
-          → wstep set W marks (here c few m p l s wl x ov links old was w ps fine here_ok) ≡ weffect set W marks true (elsewhere (form m).at tw.locals e) m (w_stack set W marks form ov links) (Fiber_at (left_overs links) (Saved old was []) [] false false) w ps
+      by : (e : Effect) → (tw : Twins set W marks form m l wl x e d) → u ≡ effect_does set e (frame m p l s) x (u_stack ov links) w
+          → wstep set W marks (here c few m p l s wl x ov links old was w ps fine here_ok) ≡ weffect set W marks true (elsewhere (form m).at tw.locals e) (frame m ((form m).at p) wl s) (w_stack set W marks form ov links) (Fiber_at (left_overs links) (Saved old was []) [] false false) w ps
           → M u c (here c few m p l s wl x ov links old was w ps fine here_ok)
       by (Goes q l2 s2 heap) tw eu ew =
           on c few m p l s wl x ov links old was w ps fine here_ok u m q s2 l2 tw.locals x ov old was (counted (with_heap w heap)) eu ew refl (record { alike = tw.alike q l2 refl; held = tw.held q l2 refl; stacked = fine.stacked })
@@ -226,16 +231,21 @@ module _ (set : Setting) (W : Program) (marks : List (List Bool)) (most : ℕ) (
           on c few m p l s wl x ov links old was w ps fine here_ok u m q (value.Ref w.next ∷ s2) l2 tw.locals x ov old was (record (counted (with_heap w heap)) { heap = insert heap w.next object; next = w.next + 1 }) eu ew refl (record { alike = tw.alike q l2 refl; held = tw.held q l2 refl; stacked = fine.stacked })
       by (Opens q l2 s2 heap) tw eu ew =
           let w2 = with_heap w heap in
-          let z = opens_same set w2 Stop (λ (a : World) (v : Option Value). Run m q l2 (push v s2) x (u_stack ov links) a) (counted w2) refl in
-          let y = opens_same set w2 WStop (λ (a : World) (v : Option Value). WRun m ((form m).at q) tw.locals (push v s2) (w_stack set W marks form ov links) (Fiber_at (left_overs links) (Saved old was []) [] false false) a ps) (counted w2) refl in
-          outcome c few m p l s wl x ov links old was w ps fine here_ok u q s2 l2 tw.locals (opens_box set w2 IsOver GoesOn (counted w2)) (eu ∙ z.0) (ew ∙ y.0) z.1 (record { alike = tw.alike q l2 refl; held = tw.held q l2 refl; stacked = fine.stacked })
+          let z = opens_same set w2 Stop (λ (a : World) (v : Option Value). Run m q l2 (push v s2) x (u_stack ov links) a) (raised_behind set (At m q l2 s2 x ∷ u_stack ov links) w2) (counted w2) refl in
+          let y = opens_same set w2 WStop (λ (a : World) (v : Option Value). WRun m ((form m).at q) tw.locals (push v s2) (w_stack set W marks form ov links) (Fiber_at (left_overs links) (Saved old was []) [] false false) a ps) (wraised_behind set W marks (frame m ((form m).at q) tw.locals s2 ∷ w_stack set W marks form ov links) (Fiber_at (left_overs links) (Saved old was []) [] false false) w2 ps) (counted w2) refl in
+          outcome c few m p l s wl x ov links old was w ps fine here_ok w2 u q s2 l2 tw.locals (opens_box set w2 IsOver GoesOn (counted w2)) (eu ∙ z.0) (ew ∙ y.0) z.1 (record { alike = tw.alike q l2 refl; held = tw.held q l2 refl; stacked = fine.stacked })
       by (Calls k args q l2 s2 heap) tw eu ew =
           plain_calls c few m p l s wl x ov links old was w ps fine here_ok u k args q s2 l2 tw.locals heap (tw.calls k args q l2 s2 heap refl) eu ew (record { alike = tw.alike q l2 refl; held = tw.held q l2 refl; stacked = fine.stacked })
       by (Asks k args q l2 s2 heap) tw eu ew =
           let n = tw.natives k args q l2 s2 heap refl in
           natives c few m p l s wl x ov links old was w ps fine here_ok u (native_of set.program k) (native_of W k) (member_of W k) args q s2 l2 tw.locals heap ok n.0 (rows.same_natives k n.0) n.1 eu ew (record { alike = tw.alike q l2 refl; held = tw.held q l2 refl; stacked = fine.stacked })
       by (Returns v heap) tw eu ew = plain_returns begin_takes c few m p l s wl x ov links old was w ps u v heap fine ok eu ew here_ok held
-      by (Throws object class cause) tw eu ew = ends c few m p l s wl x ov links old was w ps fine here_ok u w cause eu ew
-      by (Raises cause) tw eu ew = ends c few m p l s wl x ov links old was w ps fine here_ok u w cause eu ew
+      by (Throws n k why) tw eu ew =
+          ends c few m p l s wl x ov links old was w ps fine here_ok u (counted w) why (eu ∙ throws_over set rows.none_catches.0 (counted w) why (counted w) k (value.Ref n) (frame m p l s) x (u_stack ov links))
+          (ew ∙ wthrows_over set W marks rows.none_catches.1 (Fiber_at (left_overs links) (Saved old was []) [] false false) ps (counted w) why (counted w) k (value.Ref n) (frame m ((form m).at p) wl s) (w_stack set W marks form ov links))
+      by (Raises why) tw eu ew =
+          ends c few m p l s wl x ov links old was w ps fine here_ok u (counted w) why
+          (eu ∙ raises_over set rows.none_catches.0 (counted w) why w.next (frame m p l s) x (u_stack ov links) (raised_class set.program (index_at set.program (frame m p l s)) why))
+          (ew ∙ wraises_over set W marks rows.none_catches.1 (Fiber_at (left_overs links) (Saved old was []) [] false false) ps (counted w) why w.next (frame m ((form m).at p) wl s) (w_stack set W marks form ov links) (raised_class W (index_at W (frame m ((form m).at p) wl s)) why))
       by (Ends cause) tw eu ew = ends c few m p l s wl x ov links old was w ps fine here_ok u w cause eu ew
       by Stuck tw eu ew = absurd (ok eu)

@@ -65,7 +65,7 @@ module _ (set : Setting) (W : Program) (marks : List (List Bool)) where
     run_fine room there ok = by (wfetch set W marks m p) refl
       where
         by : (o : Option (Instr × ℕ × Bool)) → wfetch set W marks m p ≡ o → IsFineAt set.program W m p l s b w.heap
-        by None e = absurd (ok (ap (λ (o : Option (Instr × ℕ × Bool)). wfound set W marks o m l s b f w ps) e))
+        by None e = absurd (ok (ap (λ (o : Option (Instr × ℕ × Bool)). wfound set W marks o (frame m p l s) b f w ps) e))
         by (Some z) e =
             let r = room z.0 z.1 z.2 e in
             let d : effect_of W (frame m p l s) w.heap ≡ does W (own_of W m) z.0 z.1 l s w.heap = effect_at (method_at W m) z.0 z.1 z.2 e in

@@ -17,14 +17,19 @@ use Rattle.kilim_run_machine.specs.Effect.{Effect, Goes, Makes, Opens, Calls, As
 use Rattle.kilim_run_machine.specs.Does.{does}
 use Rattle.kilim_run_machine.specs.Moves.{frame_limit}
 use Rattle.kilim_run_model.specs.State.{Setting}
-use Rattle.kilim_fiber_spec.specs.Acts.{World, Over, Lost, counted, with_heap, ending, native_does, asks, opens_box}
-use Rattle.kilim_fiber_spec.specs.Thread.{fetch, push, Frame, At, Thread, Run, Stop, step, found_does, effect_does, finishes, begins, begins_in, own_of}
-use Rattle.kilim_fiber_spec.specs.Fibers.{Fib, Woven_state, WRun, Resting, WStop, wstep}
+use Rattle.kilim_fiber_spec.specs.Acts.{World, Over, Lost, counted, with_heap, ending, native_does, asks, opens_box, raises, with_new}
+use Rattle.kilim_fiber_spec.specs.Thread.{fetch, push, Frame, At, Thread, Run, Stop, step, found_does, effect_does, finishes, begins, begins_in, own_of, left_at, left_behind, raised_behind, stands_at}
+use Rattle.kilim_fiber_spec.proofs.lone.Left.{raises_has, thrown_has}
+use Rattle.kilim_run_machine.specs.Raising.{index_at, other_index, raised_class}
+use Rattle.kilim_run_state.specs.Objects.{new_object}
+use Rattle.kilim_program.specs.declared.value.Value.TheVariants.{Ref}
+use Rattle.kilim_program.specs.declared.names.ClassId.{ClassId}
+use Rattle.kilim_fiber_spec.specs.Fibers.{frame, Fib, Woven_state, WRun, Resting, WStop, wstep}
 use Rattle.kilim_fiber_spec.specs.Form.{Facts, Members, longest}
 use Rattle.kilim_fiber_spec.specs.Runs.{most_uncounted, Comes, stop, idle, mark}
 use Rattle.kilim_fiber_spec.specs.Serves.{Rows, Known, StandsFor}
 use Rattle.kilim_fiber_spec.specs.Links.{u_stack, Forms, code, Both, Fw, unwoven, woven, Fine}
-use Rattle.kilim_fiber_laws.proofs.simulation.Natural.{Outcome, GoesOn, IsOver, fold, Counts, ending_is, native_same, opens_same}
+use Rattle.kilim_fiber_laws.proofs.simulation.Natural.{Outcome, GoesOn, IsOver, IsRaised, fold, Counts, ending_is, native_same, opens_same}
 use Rattle.std.proofs.lemmas.Bool.{le-leb}
 use Rattle.std.specs.Prelude.{◌↔◌}
 use Rattle.kilim_fiber_spec.specs.Thread.{steps, own_of}
@@ -45,12 +50,22 @@ module _ (set : Setting) where
   Counted w (Run m p l s x b v) = v.done ≡ w.done + 1
   Counted w (Stop o) = Unit {0}
 
+  stands_counted : (w : World) (f : Frame) (fs : List Frame) (after : World) → after.done ≡ w.done + 1 → Counted w (stands_at set f fs after)
+  stands_counted w (At m p l s x) fs after e = e
+
   end_counted : (w v : World) (e : EndCause) → Counted w (ending set v Stop e)
   end_counted w v e = subst (λ (t : Thread). Counted w t) (sym (ending_is set v Stop e)) tt
 
-  fold_counted : (w : World) (m : MethodId) (p : ℕ) (l s : List Value) (x : Value) (b : List Frame) (o : Outcome) → Counts w o → Counted w (fold Stop (λ (a : World) (v : Option Value). Run m p l (push v s) x b a) o)
-  fold_counted w m p l s x b (GoesOn a v) h = h
-  fold_counted w m p l s x b (IsOver o) h = tt
+  -- what is raised or thrown is counted, wherever it leads
+  raised_counted : (w : World) (why : EndCause) (left : ClassId → List Frame) (o : Option ClassId) → Counted w (raises set Stop (stands_at set) (counted w) why set.program left o)
+  raised_counted w why left o = raises_has set (Counted w) (counted w) why (end_counted w (counted w) why) set.program left o (λ c f fs e. stands_counted w f fs (with_new (counted w) (new_object set.program c)) refl)
+
+  fold_counted : (w v : World) (m : MethodId) (p : ℕ) (l s : List Value) (x : Value) (b : List Frame) (o : Outcome) → v.done ≡ w.done → Counts w o → Counted w (fold Stop (λ (a : World) (u : Option Value). Run m p l (push u s) x b a) (raised_behind set (At m p l s x ∷ b) v) o)
+  fold_counted w v m p l s x b (GoesOn a u) e h = h
+  fold_counted w v m p l s x b (IsOver o) e h = tt
+  fold_counted w v m p l s x b (IsRaised why) e h =
+      raises_has set (Counted w) (counted v) why (end_counted w (counted v) why) set.program (λ c. left_behind set.program c (Ref v.next) (At m p l s x ∷ b)) (raised_class set.program other_index why)
+      (λ c f fs d. stands_counted w f fs (with_new (counted v) (new_object set.program c)) (ap (λ (n : ℕ). n + 1) e))
 
   if_counted : (w : World) (t : Bool) (u v : Thread) → Counted w u → Counted w v → Counted w (if t then u else v)
   if_counted w true u v a b = a
@@ -68,33 +83,33 @@ module _ (set : Setting) where
       by None = tt
       by (Some k) = begins_counted w k n v (record (counted v) { kept = None }) (method_at set.program k) (ap (λ (i : ℕ). i + 1) h)
 
-  effect_counted : (e : Effect) (m : MethodId) (x : Value) (b : List Frame) (w : World) → Counted w (effect_does set e m x b w)
-  effect_counted (Goes p l s heap) m x b w = refl
-  effect_counted (Makes object p l s heap) m x b w = refl
-  effect_counted (Opens p l s heap) m x b w =
-      let z = opens_same set (with_heap w heap) Stop (λ (a : World) (v : Option Value). Run m p l (push v s) x b a) (counted (with_heap w heap)) refl in
-      subst (λ (t : Thread). Counted w t) (sym z.0) (fold_counted w m p l s x b (opens_box set (with_heap w heap) IsOver GoesOn (counted (with_heap w heap))) z.1)
-  effect_counted (Calls c args p l s heap) m x b w = if_counted w (nat_lt (length (At m p l s x ∷ b)) frame_limit) _ _ refl (end_counted w (with_heap w heap) cause.Depth)
-  effect_counted (Asks c args p l s heap) m x b w = by (native_of set.program c)
+  effect_counted : (e : Effect) (top : Activation) (x : Value) (b : List Frame) (w : World) → Counted w (effect_does set e top x b w)
+  effect_counted (Goes p l s heap) top x b w = refl
+  effect_counted (Makes object p l s heap) top x b w = refl
+  effect_counted (Opens p l s heap) top x b w =
+      let z = opens_same set (with_heap w heap) Stop (λ (a : World) (v : Option Value). Run top.method p l (push v s) x b a) (raised_behind set (At top.method p l s x ∷ b) (with_heap w heap)) (counted (with_heap w heap)) refl in
+      subst (λ (t : Thread). Counted w t) (sym z.0) (fold_counted w (with_heap w heap) top.method p l s x b (opens_box set (with_heap w heap) IsOver GoesOn (counted (with_heap w heap))) refl z.1)
+  effect_counted (Calls c args p l s heap) top x b w = if_counted w (nat_lt (length (At top.method p l s x ∷ b)) frame_limit) _ _ refl (end_counted w (with_heap w heap) cause.Depth)
+  effect_counted (Asks c args p l s heap) top x b w = by (native_of set.program c)
     where
-      by : (o : Option Native) → Counted w (asks set (with_heap w heap) Stop (λ (a : World) (v : Option Value). Run m p l (push v s) x b a) o args)
+      by : (o : Option Native) → Counted w (asks set (with_heap w heap) Stop (λ (a : World) (v : Option Value). Run top.method p l (push v s) x b a) (raised_behind set (At top.method p l s x ∷ b) (with_heap w heap)) o args)
       by None = tt
       by (Some n) =
-          let z = native_same set (with_heap w heap) Stop (λ (a : World) (v : Option Value). Run m p l (push v s) x b a) n args in
-          subst (λ (t : Thread). Counted w t) (sym z.0) (fold_counted w m p l s x b (native_does set (with_heap w heap) IsOver GoesOn n args) z.1)
-  effect_counted (Returns v heap) m x [] w = finishes_counted w (with_heap w heap) w.kept refl
-  effect_counted (Returns v heap) m x (At m2 p2 l2 s2 x2 ∷ b) w = refl
-  effect_counted (Raises cause) m x b w = end_counted w w cause
-  effect_counted (Throws object class cause) m x b w = end_counted w w cause
-  effect_counted (Ends cause) m x b w = end_counted w w cause
-  effect_counted Stuck m x b w = tt
+          let z = native_same set (with_heap w heap) Stop (λ (a : World) (v : Option Value). Run top.method p l (push v s) x b a) (raised_behind set (At top.method p l s x ∷ b) (with_heap w heap)) n args in
+          subst (λ (t : Thread). Counted w t) (sym z.0) (fold_counted w (with_heap w heap) top.method p l s x b (native_does set (with_heap w heap) IsOver GoesOn IsRaised n args) refl z.1)
+  effect_counted (Returns v heap) top x [] w = finishes_counted w (with_heap w heap) w.kept refl
+  effect_counted (Returns v heap) top x (At m2 p2 l2 s2 x2 ∷ b) w = refl
+  effect_counted (Raises why) top x b w = raised_counted w why (λ c. left_at set.program c (Ref w.next) top x b) (raised_class set.program (index_at set.program top) why)
+  effect_counted (Throws n c why) top x b w = thrown_has set (Counted w) (counted w) why (end_counted w (counted w) why) (counted w) (left_at set.program c (Ref n) top x b) (λ f fs e. stands_counted w f fs (counted w) refl)
+  effect_counted (Ends cause) top x b w = end_counted w w cause
+  effect_counted Stuck top x b w = tt
 
   step_counted : (m : MethodId) (p : ℕ) (l s : List Value) (x : Value) (b : List Frame) (w : World) → Counted w (step set (Run m p l s x b w))
   step_counted m p l s x b w = if_counted w (nat_le set.limits.steps w.done) _ _ (end_counted w w cause.Spent) (by (fetch set.program m p))
     where
-      by : (o : Option (Instr × ℕ)) → Counted w (found_does set o m l s x b w)
+      by : (o : Option (Instr × ℕ)) → Counted w (found_does set o (frame m p l s) x b w)
       by None = tt
-      by (Some i) = effect_counted (does set.program (own_of set.program m) i.0 i.1 l s w.heap) m x b w
+      by (Some i) = effect_counted (does set.program (own_of set.program m) i.0 i.1 l s w.heap) (frame m p l s) x b w
 
   stays_over : (n : ℕ) (o : Over) → steps set n (Stop o) ≡ Stop o
   stays_over zero o = refl
@@ -105,7 +120,7 @@ module _ (set : Setting) where
   run_ends zero m p l s x b w h = (
     1,
     ending set w (λ (o : Over). o) cause.Spent,
-    ap (λ (t : Bool). if t then ending set w Stop cause.Spent else found_does set (fetch set.program m p) m l s x b w) (le-leb set.limits.steps w.done (omega (arith, h))) ∙ ending_is set w Stop cause.Spent,
+    ap (λ (t : Bool). if t then ending set w Stop cause.Spent else found_does set (fetch set.program m p) (frame m p l s) x b w) (le-leb set.limits.steps w.done (omega (arith, h))) ∙ ending_is set w Stop cause.Spent,
   )
   run_ends (suc k) m p l s x b w h = by (step set (Run m p l s x b w)) refl (step_counted m p l s x b w) (λ m2 p2 l2 s2 x2 b2 w2 g. run_ends k m2 p2 l2 s2 x2 b2 w2 g)
     where

@@ -17,7 +17,7 @@ use Rattle.kilim_run_model.specs.State.{Setting}
 use Rattle.kilim_weave_spec.specs.Woven.{pausable_callee, moved_instr}
 use Rattle.kilim_fiber_spec.specs.Acts.{World, Over, ending, spending}
 use Rattle.kilim_fiber_spec.specs.Thread.{fetch, Thread, Run, Stop, step, found_does, effect_does, own_of}
-use Rattle.kilim_fiber_spec.specs.Fibers.{Fib, Fiber_at, Saved, Woven_state, WRun, Resting, WStop, wstep, weffect, member_of}
+use Rattle.kilim_fiber_spec.specs.Fibers.{Fib, Fiber_at, Saved, Woven_state, WRun, Resting, WStop, wstep, weffect, member_of, frame}
 use Rattle.kilim_fiber_spec.specs.Rows.{elsewhere}
 use Rattle.kilim_fiber_spec.specs.Form.{Facts, Stays, Members, longest}
 use Rattle.kilim_fiber_spec.specs.Runs.{stop}
@@ -93,11 +93,11 @@ module _ (set : Setting) (W : Program) (marks : List (List Bool)) (most : ℕ) (
       st : Stays set.program W (code set W marks) (form m) p to i
       st = (facts m).stays p to i hf hn
 
-      es : step set (Run m p l s x (u_stack ov links) w) ≡ spending set w Stop (effect_does set (does set.program (own_of set.program m) i to l s w.heap) m x (u_stack ov links) w)
-      es = ap (λ (o : Option (Instr × ℕ)). spending set w Stop (found_does set o m l s x (u_stack ov links) w)) hf
+      es : step set (Run m p l s x (u_stack ov links) w) ≡ spending set w Stop (effect_does set (does set.program (own_of set.program m) i to l s w.heap) (frame m p l s) x (u_stack ov links) w)
+      es = ap (λ (o : Option (Instr × ℕ)). spending set w Stop (found_does set o (frame m p l s) x (u_stack ov links) w)) hf
 
       ex : wstep set W marks (WRun m ((form m).at p) wl s (w_stack set W marks form ov links) (Fiber_at (left_overs links) (Saved old was []) [] false false) w ps)
-          ≡ spending set w WStop (weffect set W marks true (does W (own_of W m) (moved_instr (form m).at i) ((facts m).stays p to i hf hn).next wl s w.heap) m (w_stack set W marks form ov links) (Fiber_at (left_overs links) (Saved old was []) [] false false) w ps)
+          ≡ spending set w WStop (weffect set W marks true (does W (own_of W m) (moved_instr (form m).at i) ((facts m).stays p to i hf hn).next wl s w.heap) (frame m ((form m).at p) wl s) (w_stack set W marks form ov links) (Fiber_at (left_overs links) (Saved old was []) [] false false) w ps)
       ex = path.found set W marks most Q runs m ((form m).at p) wl s (w_stack set W marks form ov links) (Fiber_at (left_overs links) (Saved old was []) [] false false) w ps (moved_instr (form m).at i) st.next true true (does W (own_of W m) (moved_instr (form m).at i) st.next wl s w.heap) st.is refl refl
 
       roomy : HasRoom set.program (does set.program (own_of set.program m) i to l s w.heap) m (bare_frames (u_stack ov links))
@@ -125,11 +125,11 @@ module _ (set : Setting) (W : Program) (marks : List (List Bool)) (most : ℕ) (
       by : (t : Bool) → nat_le set.limits.steps w.done ≡ t → M (step set (Run m p l s x (u_stack ov links) w)) c (WRun m ((form m).at p) wl s (w_stack set W marks form ov links) (Fiber_at (left_overs links) (Saved old was []) [] false false) w ps)
       by true h =
           forward.both_end set W marks most Q runs members form facts rows enough (step set (Run m p l s x (u_stack ov links) w)) c m ((form m).at p) wl s b f w w ps cause.Spent (omega (arith, few, enough))
-          (es ∙ ap (λ (t : Bool). if t then ending set w Stop cause.Spent else effect_does set (does set.program (own_of set.program m) i to l s w.heap) m x (u_stack ov links) w) h)
-          (ex ∙ ap (λ (t : Bool). if t then ending set w WStop cause.Spent else weffect set W marks true (does W (own_of W m) (moved_instr (form m).at i) st.next wl s w.heap) m b f w ps) h) here_ok
+          (es ∙ ap (λ (t : Bool). if t then ending set w Stop cause.Spent else effect_does set (does set.program (own_of set.program m) i to l s w.heap) (frame m p l s) x (u_stack ov links) w) h)
+          (ex ∙ ap (λ (t : Bool). if t then ending set w WStop cause.Spent else weffect set W marks true (does W (own_of W m) (moved_instr (form m).at i) st.next wl s w.heap) (frame m ((form m).at p) wl s) b f w ps) h) here_ok
       by false h =
-          let eu = es ∙ ap (λ (t : Bool). if t then ending set w Stop cause.Spent else effect_does set (does set.program (own_of set.program m) i to l s w.heap) m x (u_stack ov links) w) h in
-          let ew = ex ∙ ap (λ (t : Bool). if t then ending set w WStop cause.Spent else weffect set W marks true (does W (own_of W m) (moved_instr (form m).at i) st.next wl s w.heap) m b f w ps) h in
+          let eu = es ∙ ap (λ (t : Bool). if t then ending set w Stop cause.Spent else effect_does set (does set.program (own_of set.program m) i to l s w.heap) (frame m p l s) x (u_stack ov links) w) h in
+          let ew = ex ∙ ap (λ (t : Bool). if t then ending set w WStop cause.Spent else weffect set W marks true (does W (own_of W m) (moved_instr (form m).at i) st.next wl s w.heap) (frame m ((form m).at p) wl s) b f w ps) h in
           let ok = known.unstuck (Run m p l s x (u_stack ov links) w) typed in
           plain.effects set W marks most Q runs members form facts rows enough known.begins c few m p l s wl x ov links old was w ps (step set (Run m p l s x (u_stack ov links) w)) (does set.program (own_of set.program m) i to l s w.heap) (does W (own_of W m) (moved_instr (form m).at i) st.next wl s w.heap) fine twins ok eu here_ok next_held ew
 

@@ -76,7 +76,7 @@ module _ (set : Setting) (run : IsRunOfAccepted set) where
         s = begins set run W marks woven (form set run short W marks woven) (serves_tasks set run short W marks woven) k c.deeds pauses c.beginning l begun
 
         law : FollowsCourse set k c (λ o. (n : ℕ) × (steps set n first ≡ Stop o)) × ((n : ℕ) → ThreadAlong set k c (steps set n first))
-        law = thread_follows set run.keeps.handlers run.main k c l begun
+        law = thread_follows set run.main k c l begun
 
 pub runs_serve : RunsServe
 runs_serve set run short W marks woven = record {

@@ -7,7 +7,6 @@ use Rattle.kilim_program.specs.declared.value.Value.{Value}
 use Rattle.kilim_program.specs.Program.{Program}
 use Rattle.kilim_isolation_laws.specs.typed_threads.fine.Typed.{IsVerified}
 use Rattle.kilim_type_sound.specs.Fits.{Typing, Wanted}
-use Rattle.kilim_run_machine.specs.Raising.{NoTables}
 use Rattle.kilim_run_machine.specs.Does.{does}
 use Rattle.kilim_run_machine.specs.Effect.{Asks}
 use Rattle.kilim_run_state.specs.Machine.{Objects}
@@ -23,7 +22,7 @@ use Rattle.kilim_fiber_spec.specs.lone.Law.{lone_at}
 use Rattle.kilim_fiber_spec.specs.Acts.{Lost, World, asks, with_heap}
 use Rattle.kilim_fiber_spec.specs.Links.{AllStand, AreReady, Forms, Leaf, Link, Lk, u_frames}
 use Rattle.kilim_fiber_spec.specs.Serves.{From, Known, SelvesAreThere, MayPause, is_leaf, leaf_receiver, resting_heap}
-use Rattle.kilim_fiber_spec.specs.Thread.{Frame, Run, Stop, Thread, fetch, own_of, push, step}
+use Rattle.kilim_fiber_spec.specs.Thread.{At, Frame, Run, Stop, Thread, fetch, own_of, push, raised_behind, step}
 
 -- It stands as the thread of its task does, right after the deeds of some course and further moves without an action. A thread that is
 -- over is of every course.
@@ -36,7 +35,7 @@ abbrev pub CoursesBegin : Type 0
 CoursesBegin = (set : Setting) (b : Beginning) (m : MethodId) (p : ℕ) (l s : List Value) (x : Value) (below : List Frame) (w : World) → lone_begun set b ≡ Some (lone_at m p l s below w) → IsOfCourse set (Run m p l s x below w)
 
 abbrev pub CoursesGoOn : Type 0
-CoursesGoOn = (set : Setting) → NoTables set.program → (t : Thread) → IsOfCourse set t → IsOfCourse set (step set t)
+CoursesGoOn = (set : Setting) → (t : Thread) → IsOfCourse set t → IsOfCourse set (step set t)
 
 -- it has at most 512 frames
 abbrev pub HasFew : Thread → Type 0
@@ -47,7 +46,7 @@ HasFew (Stop over) = Unit {0}
 -- frames below can be made again.
 pub record Rest (set : Setting) (W : Program) (marks : List (List Bool)) (form : Forms set W marks) (Typed : Thread → Type 0) : Type 0 where
   pub answers : (m : MethodId) (p to q : ℕ) (i : Instr) (l s l2 s2 args : List Value) (x : Value) (b : List Frame) (w : World) (heap : Objects) (c : MethodId) → Typed (Run m p l s x b w) → fetch set.program m p ≡ Some (i, to)
-      → does set.program (own_of set.program m) i to l s w.heap ≡ Asks c args q l2 s2 heap → asks set (with_heap w heap) Stop (λ after v. Run m q l2 (push v s2) x b after) (native_of set.program c) args ≢ Stop Lost
+      → does set.program (own_of set.program m) i to l s w.heap ≡ Asks c args q l2 s2 heap → asks set (with_heap w heap) Stop (λ after v. Run m q l2 (push v s2) x b after) (raised_behind set (At m q l2 s2 x ∷ b) (with_heap w heap)) (native_of set.program c) args ≢ Stop Lost
   pub selves : SelvesAreThere set Typed
   pub ready : (m : MethodId) (p to : ℕ) (i : Instr) (callee : Method) (l s s2 args wl : List Value) (x : Value) (old : ℕ) (was : Value) (links : List Link) (w : World) (c : MethodId) (leaf : Native)
       → Typed (Run m p l s x (u_frames links) w) → fetch set.program m p ≡ Some (i, to) → pausable_callee set.program i ≡ Some callee

@@ -168,6 +168,7 @@ module _ (set : Setting) (W : Program) (marks : List (List Bool)) (form : Forms 
     natives = pauses.natives;
     same_natives = pauses.same_natives;
     same_slots = pauses.same_slots;
+    none_catches = pauses.none_catches;
     begins = pauses.begins;
     begins_alike = pauses.begins_alike;
   }

@@ -6,6 +6,7 @@ use Rattle.kilim_run_state.specs.declared.cause.EndCause.TheVariants as cause
 use Rattle.kilim_program.specs.declared.class.Method.{Method}
 use Rattle.kilim_program.specs.declared.instr.Instr.{Instr}
 use Rattle.kilim_program.specs.declared.names.BoxName.{BoxName}
+use Rattle.kilim_program.specs.declared.names.ClassId.{ClassId}
 use Rattle.kilim_program.specs.declared.names.MethodId.{MethodId}
 use Rattle.kilim_run_state.specs.declared.value.Object.{Object}
 use Rattle.kilim_run_state.specs.declared.value.Token.{Token}
@@ -15,7 +16,7 @@ use Rattle.kilim_program.specs.Lengths.{fetched}
 use Rattle.kilim_program.specs.Names.{method_at}
 use Rattle.kilim_run_journal.specs.declared.entry.Act.{Act}
 use Rattle.kilim_run_journal.specs.declared.entry.Act.TheVariants.{Put, Take, Empty, Start, Print, End, Wait, Bound}
-use Rattle.kilim_run_state.specs.Machine.{Objects}
+use Rattle.kilim_run_state.specs.Machine.{Activation, Objects}
 use Rattle.kilim_program.specs.Members.{execute_of}
 use Rattle.kilim_run_machine.specs.Natives.{Native, native_of}
 use Rattle.kilim_run_machine.specs.Natives as native
@@ -24,26 +25,28 @@ use Rattle.kilim_run_machine.specs.Effect as effect
 use Rattle.kilim_run_machine.specs.Does.{does}
 use Rattle.kilim_run_machine.specs.Moves.{Move, effect_found, effect_in, effect_of, entered, frame_limit, goes_on, move_by, moves, receiver_of}
 use Rattle.kilim_run_machine.specs.Moves as move
+use Rattle.kilim_run_state.specs.Objects.{new_object}
 use Rattle.kilim_run_state.specs.Shapes.{shape_of}
 use Rattle.kilim_run_state.specs.Trees.{OfMessage, built}
 use Rattle.kilim_run_model.specs.State.{Setting, Alive, begun_in, begun_on}
-use Rattle.kilim_run_model.specs.Lone.{Lone, Next, arg_at, arg_next, asks_next, begins_next, box_limit, ended, finish_next, frames_next, message_next, native_next, next_by, next_move, on_heap, opens_next, print_next, printed, put_next, put_wait_next, bound_next, raised, start_next, thread_next, wait_next, went}
+use Rattle.kilim_run_model.specs.State as state
+use Rattle.kilim_run_model.specs.Lone.{Lone, Next, arg_at, arg_next, asks_next, begins_next, box_limit, ended, finish_next, frames_next, message_next, native_next, next_by, next_move, on_heap, opens_next, print_next, printed, put_next, put_wait_next, bound_next, raised, start_next, thread_next, throws_by, raises_by, raises_of, wait_next, went}
 use Rattle.kilim_run_model.specs.Lone as next
 use Rattle.kilim_run_model.specs.Course.{fills_deed, probes_deed, puts_deed, starts_deed, takes_deed, tree_came}
-use Rattle.kilim_run_model.proofs.Raised.{raised_over, raises_over, throws_over}
-use Rattle.kilim_run_machine.specs.Raising.{NoTables}
+use Rattle.kilim_run_machine.specs.Raising.{index_at, other_index, raised_class, thrown, unwound}
 use Rattle.kilim_run_model.specs.declared.deed.Deed.{Deed}
-use Rattle.kilim_fiber_spec.specs.Acts.{World, Over, Wants, Finished, Astray, Lost, counted, with_heap, ending, spending, last, put_by, puts, puts_value, put_wait_by, put_waits, waits_value, bounds, start_by, starts, receives, take_by, takes, probe_by, probes, prints, gives_arg, native_does, asks, makes, opens_box}
+use Rattle.kilim_fiber_spec.specs.Acts.{World, Over, Wants, Finished, Astray, Lost, counted, with_heap, ending, spending, last, put_by, puts, puts_value, put_wait_by, put_waits, waits_value, bounds, start_by, starts, receives, take_by, takes, probe_by, probes, prints, gives_arg, native_does, asks, makes, opens_box, thrown_to, raises, with_new}
 use Rattle.kilim_fiber_spec.specs.Acts as action
-use Rattle.kilim_fiber_spec.specs.Thread.{Frame, At, Thread, Run, Stop, push, step, fetch, own_of, own_in, code_in, found_does, effect_does, finishes, begins, begins_in, self_of}
+use Rattle.kilim_fiber_spec.specs.Thread.{Frame, At, Thread, Run, Stop, push, step, fetch, own_of, own_in, code_in, found_does, effect_does, finishes, begins, begins_in, self_of, left_behind, left_at, stands_at, raised_behind}
 use Rattle.kilim_fiber_spec.specs.Fibers.{frame}
+use Rattle.kilim_fiber_spec.proofs.lone.Left.{at_same, behind_same}
 use Rattle.kilim_fiber_spec.specs.lone.Law.{lone_frames, lone_at, IsLast, IsDone, IsActed, IsNext}
 
 same_length : (b : List Frame) → length (lone_frames b) ≡ length b
 same_length [] = refl
 same_length (At m p l s x ∷ b) = ap suc (same_length b)
 
-module _ (set : Setting) (none : NoTables set.program) where
+module _ (set : Setting) where
   abbrev N : World → Next → Thread → Type 0
   N w n t = IsNext set w.deeds w.acts w.task w.aside n t
 
@@ -59,15 +62,45 @@ module _ (set : Setting) (none : NoTables set.program) where
   ends : (w : World) (l : Lone) (c : EndCause) → N w (next.Ends c (ended l c)) (ending set w Stop c)
   ends w l c = ends_in w.deeds w.acts w.task w (ended l c) c refl
 
+  -- ---- exceptions
+
+  module _ (w : World) (th : state.Thread) (why : EndCause) where
+    -- the thread alone, whatever its frames
+    abbrev stood : Lone
+    stood = record { heap = w.heap; next = w.next; thread = th; kept = w.kept }
+
+    throws_so : (left : List Frame) → N w (throws_by stood why (w.done + 1) w.boxes (lone_frames left)) (thrown_to set Stop (stands_at set) (counted w) why (counted w) left)
+    throws_so [] = ends (counted w) stood why
+    throws_so (At m p l s x ∷ b) = (refl, refl, refl, refl, refl)
+
+    made_so : (object : Object) (left : List Frame) → N w (raises_by stood object why (w.done + 1) w.boxes (lone_frames left)) (thrown_to set Stop (stands_at set) (counted w) why (with_new (counted w) object) left)
+    made_so object [] = ends (counted w) stood why
+    made_so object (At m p l s x ∷ b) = (refl, refl, refl, refl, refl)
+
+    raises_so : (alone : ClassId → List Activation) (left : ClassId → List Frame) → ((c : ClassId) → alone c ≡ lone_frames (left c)) → (o : Option ClassId)
+        → N w (raises_of set.program stood why (w.done + 1) w.boxes alone o) (raises set Stop (stands_at set) (counted w) why set.program left o)
+    raises_so alone left same None = ends (counted w) stood why
+    raises_so alone left same (Some c) =
+        subst (λ (fs : List Activation). N w (raises_by stood (new_object set.program c) why (w.done + 1) w.boxes fs) (thrown_to set Stop (stands_at set) (counted w) why (with_new (counted w) (new_object set.program c)) (left c))) (sym (same c))
+        (made_so (new_object set.program c) (left c))
+
   -- ---- built-in methods: the world `w` is that before the call, and the thread goes on in this frame
 
   module _ (w : World) (m : MethodId) (p : ℕ) (l s : List Value) (x : Value) (b : List Frame) where
     abbrev go : World → Option Value → Thread
     go a v = Run m p l (push v s) x b a
 
+    abbrev raise : EndCause → Thread
+    raise = raised_behind set (At m p l s x ∷ b) w
+
     -- the thread behind the call
     abbrev after : Lone
     after = lone_at m p l s b (counted w)
+
+    raises_here : (why : EndCause) → N w (raised set.program after why) (raise why)
+    raises_here why =
+        raises_so w (Alive (frame m p l s ∷ lone_frames b) (w.done + 1) w.boxes) why (λ c. unwound set.program c (Ref w.next) (frame m p l s ∷ lone_frames b)) (λ c. left_behind set.program c (Ref w.next) (At m p l s x ∷ b))
+        (λ c. behind_same set.program c (Ref w.next) (At m p l s x ∷ b)) (raised_class set.program other_index why)
 
     puts_next : (box : BoxName) (n : ℕ) (o : Option (List Token)) → N w (put_next after box n o) (puts set w Stop go box n o)
     puts_next box n None = ends w after cause.Large
@@ -91,8 +124,8 @@ module _ (set : Setting) (none : NoTables set.program) where
         by [] = (w, refl, (refl, refl))
         by (d ∷ rest) = told d rest d.act
 
-    messages : (box : BoxName) (v : Value) → N w (message_next set.program after box v) (puts_value set w Stop go box v)
-    messages box Null = subst (λ (n : Next). N w n (ending set w Stop cause.Null)) (sym (raised_over set.program none after cause.Null)) (ends w after cause.Null)
+    messages : (box : BoxName) (v : Value) → N w (message_next set.program after box v) (puts_value set w Stop go raise box v)
+    messages box Null = raises_here cause.Null
     messages box (Ref n) = puts_next box n (shape_of set.program w.heap n)
     messages box (Int z) = refl
     messages box (Long z) = refl
@@ -118,8 +151,8 @@ module _ (set : Setting) (none : NoTables set.program) where
         by [] = (w, refl, (refl, refl))
         by (d ∷ rest) = told d rest d.act
 
-    waits_next : (box : BoxName) (v : Value) → N w (wait_next set.program after box v) (waits_value set w Stop go box v)
-    waits_next box Null = subst (λ (n : Next). N w n (ending set w Stop cause.Null)) (sym (raised_over set.program none after cause.Null)) (ends w after cause.Null)
+    waits_next : (box : BoxName) (v : Value) → N w (wait_next set.program after box v) (waits_value set w Stop go raise box v)
+    waits_next box Null = raises_here cause.Null
     waits_next box (Ref n) = put_waits_next box n (shape_of set.program w.heap n)
     waits_next box (Int z) = refl
     waits_next box (Long z) = refl
@@ -127,18 +160,15 @@ module _ (set : Setting) (none : NoTables set.program) where
     waits_next box (Box z) = refl
     waits_next box Fiber = refl
 
-    no_bound : N w (raised set.program after cause.Size) (ending set w Stop cause.Size)
-    no_bound = subst (λ (n : Next). N w n (ending set w Stop cause.Size)) (sym (raised_over set.program none after cause.Size)) (ends w after cause.Size)
-
-    bounds_next : (box : BoxName) (i : ℤ) → N w (bound_next set.program after box i) (bounds set w Stop go box i)
+    bounds_next : (box : BoxName) (i : ℤ) → N w (bound_next set.program after box i) (bounds set w Stop go raise box i)
     bounds_next box (pos (suc n)) = by w.deeds
       where
         by : (ds : List Deed) → IsActed set ds w.acts w.task w.aside (next.Bounds box (suc n) after)
             (elim ds [ [] ↦ Stop (Wants (action.Bounds box (suc n)) w) | d ∷ rest ↦ Run m p l s x b (record (counted w) { deeds = rest; acts = Bound box (suc n) ∷ w.acts }) ])
         by [] = (w, refl, (refl, refl))
         by (d ∷ rest) = (refl, refl, refl, refl, refl)
-    bounds_next box (pos zero) = no_bound
-    bounds_next box (negsuc n) = no_bound
+    bounds_next box (pos zero) = raises_here cause.Size
+    bounds_next box (negsuc n) = raises_here cause.Size
 
     starts_next : (n : ℕ) (o : Option (List Token)) → N w (start_next after n o) (starts set w Stop go n o)
     starts_next n None = ends w after cause.Large
@@ -209,11 +239,11 @@ module _ (set : Setting) (none : NoTables set.program) where
         by [] = (w, refl, (refl, refl))
         by (d ∷ rest) = (refl, refl, refl, refl, refl)
 
-    args_next : (o : Option ℤ) → N w (arg_next set.program after o) (gives_arg set w Stop go o)
-    args_next None = subst (λ (n : Next). N w n (ending set w Stop cause.Index)) (sym (raised_over set.program none after cause.Index)) (ends w after cause.Index)
+    args_next : (o : Option ℤ) → N w (arg_next set.program after o) (gives_arg set w Stop go raise o)
+    args_next None = raises_here cause.Index
     args_next (Some n) = (refl, refl, refl, refl, refl)
 
-    natives_next : (n : Native) (args : List Value) → N w (native_next set after n args) (native_does set w Stop go n args)
+    natives_next : (n : Native) (args : List Value) → N w (native_next set after n args) (native_does set w Stop go raise n args)
     natives_next native.Execute (Ref n ∷ []) = (refl, refl, refl, refl, refl)
     natives_next native.Start (Ref n ∷ []) = starts_next n (shape_of set.program w.heap n)
     natives_next native.Put (Box box ∷ message ∷ []) = messages box message
@@ -227,7 +257,7 @@ module _ (set : Setting) (none : NoTables set.program) where
     natives_next native.Arg (Int i ∷ []) = args_next (arg_at set.limits.args i)
     natives_next n args = refl
 
-    asked : (o : Option Native) (args : List Value) → N w (asks_next set after args o) (asks set w Stop go o args)
+    asked : (o : Option Native) (args : List Value) → N w (asks_next set after args o) (asks set w Stop go raise o args)
     asked None args = refl
     asked (Some n) args = natives_next n args
 
@@ -265,7 +295,7 @@ module _ (set : Setting) (none : NoTables set.program) where
   -- ---- all effects
 
   effects : (e : Effect) (m : MethodId) (p : ℕ) (l s : List Value) (x : Value) (b : List Frame) (w : World)
-      → N w (next_by set w.task (lone_at m p l s b w) w.done w.boxes (frame m p l s) (lone_frames b) (move_by set.program e (frame m p l s) (lone_frames b))) (effect_does set e m x b w)
+      → N w (next_by set w.task (lone_at m p l s b w) w.done w.boxes (frame m p l s) (lone_frames b) (move_by set.program e (frame m p l s) (lone_frames b))) (effect_does set e (frame m p l s) x b w)
   effects (effect.Goes q l2 s2 heap) m p l s x b w = (refl, refl, refl, refl, refl)
   effects (effect.Makes object q l2 s2 heap) m p l s x b w = (refl, refl, refl, refl, refl)
   effects (effect.Opens q l2 s2 heap) m p l s x b w = by (nat_lt w.boxes box_limit)
@@ -288,9 +318,11 @@ module _ (set : Setting) (none : NoTables set.program) where
   effects (effect.Returns None heap) m p l s x (At m2 p2 l2 s2 x2 ∷ b) w = (refl, refl, refl, refl, refl)
   effects (effect.Returns (Some v) heap) m p l s x (At m2 p2 l2 s2 x2 ∷ b) w = (refl, refl, refl, refl, refl)
   effects (effect.Raises c) m p l s x b w =
-      subst (λ (n : Next). N w n (ending set w Stop c)) (sym (raises_over set.program none (lone_at m p l s b w) c w.done w.boxes (frame m p l s) (lone_frames b))) (ends w (lone_at m p l s b w) c)
+      raises_so w (Alive (frame m p l s ∷ lone_frames b) w.done w.boxes) c (λ k. thrown set.program k (Ref w.next) (frame m p l s) (lone_frames b)) (λ k. left_at set.program k (Ref w.next) (frame m p l s) x b)
+      (λ k. at_same set.program k (Ref w.next) (frame m p l s) x b) (raised_class set.program (index_at set.program (frame m p l s)) c)
   effects (effect.Throws n k c) m p l s x b w =
-      subst (λ (z : Next). N w z (ending set w Stop c)) (sym (throws_over set.program none (lone_at m p l s b w) c (w.done + 1) w.boxes n k (frame m p l s) (lone_frames b))) (ends w (lone_at m p l s b w) c)
+      subst (λ (fs : List Activation). N w (throws_by (lone_at m p l s b w) c (w.done + 1) w.boxes fs) (thrown_to set Stop (stands_at set) (counted w) c (counted w) (left_at set.program k (Ref n) (frame m p l s) x b)))
+      (sym (at_same set.program k (Ref n) (frame m p l s) x b)) (throws_so w (Alive (frame m p l s ∷ lone_frames b) w.done w.boxes) c (left_at set.program k (Ref n) (frame m p l s) x b))
   effects (effect.Ends c) m p l s x b w = ends w (lone_at m p l s b w) c
   effects effect.Stuck m p l s x b w = refl
 
@@ -299,20 +331,20 @@ module _ (set : Setting) (none : NoTables set.program) where
   steps m p l s x b w = spent (nat_le set.limits.steps w.done)
     where
       found : (own : Method) (o : Option (Instr × ℕ)) → N w (next_by set w.task (lone_at m p l s b w) w.done w.boxes (frame m p l s) (lone_frames b) (move_by set.program (effect_found set.program own (frame m p l s) w.heap o) (frame m p l s) (lone_frames b)))
-          (elim o [ None ↦ Stop Lost | Some i ↦ effect_does set (does set.program own i.0 i.1 l s w.heap) m x b w ])
+          (elim o [ None ↦ Stop Lost | Some i ↦ effect_does set (does set.program own i.0 i.1 l s w.heap) (frame m p l s) x b w ])
       found own None = refl
       found own (Some i) = effects (does set.program own i.0 i.1 l s w.heap) m p l s x b w
 
       method : (o : Option Method) → N w (next_by set w.task (lone_at m p l s b w) w.done w.boxes (frame m p l s) (lone_frames b) (move_by set.program (effect_in set.program (frame m p l s) w.heap o) (frame m p l s) (lone_frames b)))
-          (elim (code_in o p) [ None ↦ Stop Lost | Some i ↦ effect_does set (does set.program (own_in o) i.0 i.1 l s w.heap) m x b w ])
+          (elim (code_in o p) [ None ↦ Stop Lost | Some i ↦ effect_does set (does set.program (own_in o) i.0 i.1 l s w.heap) (frame m p l s) x b w ])
       method None = refl
       method (Some own) = found own (fetched own.code own.code_length p)
 
-      same : (o : Option (Instr × ℕ)) → elim o [ None ↦ Stop Lost | Some i ↦ effect_does set (does set.program (own_of set.program m) i.0 i.1 l s w.heap) m x b w ] ≡ found_does set o m l s x b w
+      same : (o : Option (Instr × ℕ)) → elim o [ None ↦ Stop Lost | Some i ↦ effect_does set (does set.program (own_of set.program m) i.0 i.1 l s w.heap) (frame m p l s) x b w ] ≡ found_does set o (frame m p l s) x b w
       same None = refl
       same (Some i) = refl
 
       spent : (t : Bool) → N w (if t then next.Ends cause.Spent (ended (lone_at m p l s b w) cause.Spent) else next_by set w.task (lone_at m p l s b w) w.done w.boxes (frame m p l s) (lone_frames b) (moves set.program (frame m p l s) (lone_frames b) w.heap))
-          (if t then ending set w Stop cause.Spent else found_does set (fetch set.program m p) m l s x b w)
+          (if t then ending set w Stop cause.Spent else found_does set (fetch set.program m p) (frame m p l s) x b w)
       spent true = ends w (lone_at m p l s b w) cause.Spent
       spent false = subst (λ (t : Thread). N w (next_by set w.task (lone_at m p l s b w) w.done w.boxes (frame m p l s) (lone_frames b) (move_by set.program (effect_of set.program (frame m p l s) w.heap) (frame m p l s) (lone_frames b))) t) (same (fetch set.program m p)) (method (method_at set.program m))

@@ -18,6 +18,7 @@ use Rattle.kilim_program.specs.Members.{named_type}
 use Rattle.kilim_run_state.specs.Machine.{Objects}
 use Rattle.kilim_program.specs.Members.{execute_of}
 use Rattle.kilim_run_machine.specs.Moves.{slots_in}
+use Rattle.kilim_run_machine.specs.Raising.{NoTables}
 use Rattle.kilim_run_machine.specs.Natives.{FiberMember, Save, Place, Native, native_of, is_built_in_constructor, is_handed_out, is_text_method}
 use Rattle.kilim_run_state.specs.Objects.{new_object}
 use Rattle.kilim_run_model.specs.State.{Setting}
@@ -118,6 +119,7 @@ pub record SharesPauses (set : Setting) (W : Program) (fiber : Ty) : Type 0 wher
       → (member_of W c ≡ None) × ((n : Native) → native_of set.program c ≡ Some n → is_pausing_native n ≡ true)
   pub same_natives : (c : MethodId) → member_of W c ≡ None → native_of W c ≡ native_of set.program c
   pub same_slots : (c : MethodId) → is_pausable set.program c ≡ false → slots_in (method_at W c) ≡ slots_in (method_at set.program c)
+  pub none_catches : NoTables set.program × NoTables W
   pub begins : execute_of W set.main ≡ execute_of set.program set.main
   pub begins_alike : (c : MethodId) (a : Method) → execute_of set.program set.main ≡ Some c → method_at set.program c ≡ Some a → (b : Method) × (method_at W c ≡ Some b) × (b.built_in ≡ a.built_in) × (a.pausable ≡ true)
 

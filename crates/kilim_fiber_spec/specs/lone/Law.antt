@@ -6,7 +6,6 @@ use Rattle.kilim_program.specs.declared.value.Value.{Value}
 use Rattle.kilim_run_journal.specs.declared.entry.Act.{Act}
 use Rattle.kilim_run_journal.specs.declared.entry.Act.TheVariants.{End}
 use Rattle.kilim_run_state.specs.Machine.{Activation}
-use Rattle.kilim_run_machine.specs.Raising.{NoTables}
 use Rattle.kilim_run_model.specs.State.{Setting, Alive}
 use Rattle.kilim_run_model.specs.Lone.{Lone, Next, next_move}
 use Rattle.kilim_run_model.specs.Lone as next
@@ -81,9 +80,8 @@ IsNext set ds as1 k aside (next.Goes after) t = IsAt after ds as1 k aside t
 IsNext set ds as1 k aside next.Stands t = t ≡ Stop Lost
 IsNext set ds as1 k aside n t = IsActed set ds as1 k aside n t
 
--- A step of the thread is what the thread on its own heap does next, with what others decide read from the next deed. No method has an
--- exception table: what is raised or thrown ends both.
+-- A step of the thread is what the thread on its own heap does next, with what others decide read from the next deed.
 abbrev pub ThreadIsLone : Type 0
 ThreadIsLone =
-    (set : Setting) → NoTables set.program → (m : MethodId) (p : ℕ) (l s : List Value) (x : Value) (b : List Frame) (w : World) →
+    (set : Setting) → (m : MethodId) (p : ℕ) (l s : List Value) (x : Value) (b : List Frame) (w : World) →
     IsNext set w.deeds w.acts w.task w.aside (next_move set w.task (lone_at m p l s b w)) (step set (Run m p l s x b w))

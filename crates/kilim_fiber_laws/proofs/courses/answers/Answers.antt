@@ -17,12 +17,12 @@ use Rattle.kilim_run_machine.specs.Natives.{Native, native_method, native_of}
 use Rattle.kilim_type_spec.specs.Step.{made_at, made_by}
 use Rattle.kilim_type_spec.specs.Typed.{edges}
 use Rattle.kilim_fiber_laws.proofs.courses.answers.Asked.{AsksWell, Asked, rows}
-use Rattle.kilim_fiber_laws.proofs.courses.answers.Deeds.{does_so, is_lost}
+use Rattle.kilim_fiber_laws.proofs.courses.answers.Deeds.{does_so, is_lost, raised_so}
 use Rattle.kilim_fiber_laws.proofs.courses.answers.Table.{answers}
 use Rattle.kilim_fiber_laws.specs.courses.answers.Law.{NativesAnswer}
 use Rattle.kilim_fiber_laws.proofs.courses.Receives.{receives_typed}
 use Rattle.kilim_fiber_spec.specs.Acts.{asks, with_heap}
-use Rattle.kilim_fiber_spec.specs.Thread.{Run, Stop, code_in, own_in, push}
+use Rattle.kilim_fiber_spec.specs.Thread.{At, Run, Stop, code_in, own_in, push, raised_behind}
 
 -- places of `new`
 made_there : (es : List (ℕ × Instr)) (end at : ℕ) (i : Instr) (next : ℕ) → fetched es end at ≡ Some (i, next) → made_at es at ≡ made_by i
@@ -52,4 +52,4 @@ natives_answer set typing wanted is of m p to q i l s l2 s2 args x b w heap c to
     let one = same (method_at set.program c) native.callee asked.0 native.there asked.1 in
     let r = answers set.program is.keeps is.form of w.heap fits c asked.0 asked.1 (subst (λ (k : Method). k.built_in ≡ true) one native.built_in) args asked.2 (subst (λ (k : Method). have_types set.program k of (native_types k) args ≡ true) one native.arguments) in
     let known : native_of set.program c ≡ Some r.0 = ap (λ (o : Option Method). o >>= native_method set.program) asked.1 ∙ r.1 in
-    λ e. false≢true (sym (subst (λ (o : Option Native). is_lost (asks set (with_heap w heap) Stop (λ after v. Run m q l2 (push v s2) x b after) o args) ≡ false) (sym known) (does_so set (with_heap w heap) (λ after v. Run m q l2 (push v s2) x b after) (λ after v. refl) r.0 args r.2)) ∙ ap is_lost e)
+    λ e. false≢true (sym (subst (λ (o : Option Native). is_lost (asks set (with_heap w heap) Stop (λ after v. Run m q l2 (push v s2) x b after) (raised_behind set (At m q l2 s2 x ∷ b) (with_heap w heap)) o args) ≡ false) (sym known) (does_so set (with_heap w heap) (λ after v. Run m q l2 (push v s2) x b after) (λ after v. refl) (raised_behind set (At m q l2 s2 x ∷ b) (with_heap w heap)) (raised_so set (At m q l2 s2 x ∷ b) (with_heap w heap)) r.0 args r.2)) ∙ ap is_lost e)

@@ -36,7 +36,7 @@ module _ (set : Setting) (Q : Thread → Type 0) (over : (o : Over) → Q (Stop 
   pub ended : (why : EndCause) → Q (ending set w Stop why)
   ended why = acted (action.Ends why) (λ deed rest. last set w Stop why rest) (λ d rest. at_last why rest)
 
-  module _ (go : World → Option Value → Thread) (on : (after : World) (v : Option Value) → after.kept ≡ w.kept → Q (go after v)) where
+  module _ (go : World → Option Value → Thread) (on : (after : World) (v : Option Value) → after.kept ≡ w.kept → Q (go after v)) (raise : EndCause → Thread) (raised : (why : EndCause) → Q (raise why)) where
     put_so : (box : BoxName) (shape : List Token) (n : ℕ) (act : Act) (rest : List Deed) → Q (put_by set w Stop go box shape n act rest)
     put_so box shape n (Put b k s) rest = on _ _ refl
     put_so box shape n (End c) rest = at_last cause.Full rest
@@ -46,8 +46,8 @@ module _ (set : Setting) (Q : Thread → Type 0) (over : (o : Over) → Q (Stop 
     puts_so box n None = ended cause.Large
     puts_so box n (Some shape) = acted (action.Puts box n shape) (λ deed rest. put_by set w Stop go box shape n deed.act rest) (λ d rest. put_so box shape n d.act rest)
 
-    message_so : (box : BoxName) (v : Value) → Q (puts_value set w Stop go box v)
-    message_so box Null = ended cause.Null
+    message_so : (box : BoxName) (v : Value) → Q (puts_value set w Stop go raise box v)
+    message_so box Null = raised cause.Null
     message_so box (Ref n) = puts_so box n (shape_of set.program w.heap n)
     message_so box v = over Lost
 
@@ -59,15 +59,15 @@ module _ (set : Setting) (Q : Thread → Type 0) (over : (o : Over) → Q (Stop 
     put_waits_so box n None = ended cause.Large
     put_waits_so box n (Some shape) = acted (action.PutWaits box n shape) (λ deed rest. put_wait_by set w Stop go box shape n deed.act rest) (λ d rest. put_wait_so box shape n d.act rest)
 
-    wait_so : (box : BoxName) (v : Value) → Q (waits_value set w Stop go box v)
-    wait_so box Null = ended cause.Null
+    wait_so : (box : BoxName) (v : Value) → Q (waits_value set w Stop go raise box v)
+    wait_so box Null = raised cause.Null
     wait_so box (Ref n) = put_waits_so box n (shape_of set.program w.heap n)
     wait_so box v = over Lost
 
-    bound_so : (box : BoxName) (i : ℤ) → Q (bounds set w Stop go box i)
+    bound_so : (box : BoxName) (i : ℤ) → Q (bounds set w Stop go raise box i)
     bound_so box (pos (suc n)) = acted (action.Bounds box (suc n)) _ (λ d rest. on _ _ refl)
-    bound_so box (pos zero) = ended cause.Size
-    bound_so box (negsuc n) = ended cause.Size
+    bound_so box (pos zero) = raised cause.Size
+    bound_so box (negsuc n) = raised cause.Size
 
     start_so : (shape : List Token) (n : ℕ) (act : Act) (rest : List Deed) → Q (start_by set w Stop go shape n act rest)
     start_so shape n (Start t s) rest = on _ _ refl
@@ -94,11 +94,11 @@ module _ (set : Setting) (Q : Thread → Type 0) (over : (o : Over) → Q (Stop 
     prints_so None = over Lost
     prints_so (Some t) = acted (action.Prints t) _ (λ d rest. on _ _ refl)
 
-    arg_so : (o : Option ℤ) → Q (gives_arg set w Stop go o)
-    arg_so None = ended cause.Index
+    arg_so : (o : Option ℤ) → Q (gives_arg set w Stop go raise o)
+    arg_so None = raised cause.Index
     arg_so (Some n) = on _ _ refl
 
-    does_so : (k : Native) (args : List Value) → Q (native_does set w Stop go k args)
+    does_so : (k : Native) (args : List Value) → Q (native_does set w Stop go raise k args)
     does_so native.Execute (Ref n ∷ []) = on _ _ refl
     does_so native.Start (Ref n ∷ []) = starts_so n (shape_of set.program w.heap n)
     does_so native.Put (Box box ∷ message ∷ []) = message_so box message
@@ -112,6 +112,6 @@ module _ (set : Setting) (Q : Thread → Type 0) (over : (o : Over) → Q (Stop 
     does_so native.Arg (Int i ∷ []) = arg_so (arg_at set.limits.args i)
     does_so n args = over Lost
 
-    pub asks_so : (o : Option Native) (args : List Value) → Q (asks set w Stop go o args)
+    pub asks_so : (o : Option Native) (args : List Value) → Q (asks set w Stop go raise o args)
     asks_so None args = over Lost
     asks_so (Some n) args = does_so n args

@@ -17,11 +17,18 @@ use Rattle.kilim_type_sound.specs.Sound.{EffectFits, argument_types}
 use Rattle.kilim_type_sound.proofs.Grounds.{facts_hold}
 use Rattle.kilim_type_sound.proofs.Narrowed.{narrows}
 use Rattle.kilim_type_sound.proofs.Table.{table_fits}
-use Rattle.kilim_type_sound.proofs.Walk.{stands_at}
+use Rattle.kilim_type_sound.proofs.Walk.{stands_at as typed_at}
+use Rattle.kilim_run_state.specs.declared.cause.EndCause.{EndCause}
 use Rattle.kilim_run_state.specs.declared.cause.EndCause.TheVariants as cause
 use Rattle.kilim_run_machine.specs.Does.{does}
 use Rattle.kilim_run_machine.specs.Effect.{Asks, Calls, Effect, Ends, Goes, Makes, Opens, Raises, Throws, Returns, Stuck}
-use Rattle.kilim_run_state.specs.Machine.{Objects}
+use Rattle.kilim_run_state.specs.Machine.{Activation, Objects}
+use Rattle.kilim_run_machine.specs.Raising.{index_at, other_index, raised_class}
+use Rattle.kilim_fiber_spec.proofs.lone.Left.{raises_has, thrown_has}
+use Rattle.kilim_fiber_laws.proofs.receivers.called.Left.{AreCalled, at_called, behind_called}
+use Rattle.kilim_run_state.specs.Objects.{new_object}
+use Rattle.kilim_program.specs.declared.names.ClassId.{ClassId}
+use Rattle.kilim_fiber_spec.specs.Fibers.{frame}
 use Rattle.kilim_program.specs.Members.{constructor_of, execute_of, is_concrete, is_own_constructor}
 use Rattle.kilim_run_machine.specs.Moves.{entered, frame_limit}
 use Rattle.kilim_run_machine.specs.Natives.{native_of}
@@ -38,8 +45,8 @@ use Rattle.kilim_fiber_laws.proofs.receivers.called.Natives.{asks_so, ended}
 use Rattle.kilim_fiber_laws.proofs.courses.Receives.{receives_typed}
 use Rattle.kilim_fiber_spec.specs.lone.Law.{lone_at}
 use Rattle.kilim_fiber_laws.proofs.receivers.Chain.{WellAs, as_well, wants_all}
-use Rattle.kilim_fiber_spec.specs.Acts.{World, counted, ending, with_heap}
-use Rattle.kilim_fiber_spec.specs.Thread.{At, Frame, Run, Stop, Thread, begins, begins_in, code_in, effect_does, fetch, finishes, found_does, own_in, own_of, push, returns, self_of, step}
+use Rattle.kilim_fiber_spec.specs.Acts.{World, counted, ending, raises, with_heap, with_new}
+use Rattle.kilim_fiber_spec.specs.Thread.{At, Frame, Run, Stop, Thread, begins, begins_in, code_in, effect_does, fetch, finishes, found_does, own_in, own_of, push, raised_behind, returns, self_of, step, left_at, left_behind, stands_at}
 
 -- places of `new`
 made_there : (es : List (ℕ × Instr)) (end at : ℕ) (i : Instr) (next : ℕ) → fetched es end at ≡ Some (i, next) → made_at es at ≡ made_by i
@@ -135,28 +142,40 @@ module _ (set : Setting) (run : IsRunOfAccepted set) where
     returned v h m x [] w main all = finished (with_heap w h) main w.kept refl
     returned v h m x (At m2 q2 l2 s2 x2 ∷ b) w main all = all.1
 
-    module _ (m : MethodId) (x : Value) (b : List Frame) (w : World) (all : AllCalled set.program more w.kept m x b) (main : (n : ℕ) → w.kept ≡ Some n → more n ≡ Some (class_type set.main.0)) where
-      went : (q : ℕ) (l s : List Value) (after : World) → after.kept ≡ w.kept → CalledAs set more (Run m q l s x b after)
-      went q l s after e = subst (λ (k : Option ℕ). AllCalled set.program more k m x b) (sym e) all
+    module _ (top : Activation) (x : Value) (b : List Frame) (w : World) (all : AllCalled set.program more w.kept top.method x b) (main : (n : ℕ) → w.kept ≡ Some n → more n ≡ Some (class_type set.main.0)) where
+      went : (q : ℕ) (l s : List Value) (after : World) → after.kept ≡ w.kept → CalledAs set more (Run top.method q l s x b after)
+      went q l s after e = subst (λ (k : Option ℕ). AllCalled set.program more k top.method x b) (sym e) all
 
-      effect_called : (e : Effect) → CallsFrom set.program more m e → Enters set.program more e → CalledAs set more (effect_does set e m x b w)
+      stands : (f : Frame) (fs : List Frame) (after : World) → after.kept ≡ w.kept → AreCalled set.program more w.kept (f ∷ fs) → CalledAs set more (stands_at set f fs after)
+      stands (At k q l s y) fs after e h = subst (λ (o : Option ℕ). AllCalled set.program more o k y fs) (sym e) h
+
+      raised : (v : World) → v.kept ≡ w.kept → (why : EndCause) (left : ClassId → List Frame) (o : Option ClassId) → ((c : ClassId) → AreCalled set.program more w.kept (left c)) → CalledAs set more (raises set Stop (stands_at set) (counted v) why set.program left o)
+      raised v e why left o all =
+          raises_has set (CalledAs set more) (counted v) why (ended set (CalledAs set more) (λ o. tt) (counted v) why) set.program left o
+          (λ c f fs d. stands f fs (with_new (counted v) (new_object set.program c)) e (subst (AreCalled set.program more w.kept) d (all c)))
+
+      effect_called : (e : Effect) → CallsFrom set.program more top.method e → Enters set.program more e → CalledAs set more (effect_does set e top x b w)
       effect_called (Goes q l s h) from enters = all
       effect_called (Makes o q l s h) from enters = all
       effect_called (Opens q l s h) from enters = by (nat_lt w.boxes box_limit)
         where
-          by : (z : Bool) → CalledAs set more (cond z (Run m q l (Box (record { task = w.task; number = w.boxes }) ∷ s) x b (record (counted (with_heap w h)) { boxes = w.boxes + 1 })) (ending set (with_heap w h) Stop cause.Boxes))
+          by : (z : Bool) → CalledAs set more (cond z (Run top.method q l (Box (record { task = w.task; number = w.boxes }) ∷ s) x b (record (counted (with_heap w h)) { boxes = w.boxes + 1 })) (ending set (with_heap w h) Stop cause.Boxes))
           by true = all
           by false = ended set (CalledAs set more) (λ o. tt) (with_heap w h) cause.Boxes
-      effect_called (Calls c args q l s h) from enters = by (nat_lt (length (At m q l s x ∷ b)) frame_limit)
+      effect_called (Calls c args q l s h) from enters = by (nat_lt (length (At top.method q l s x ∷ b)) frame_limit)
         where
-          by : (z : Bool) → CalledAs set more (cond z (Run c 0 (entered set.program c args).locals [] (self_of set.program c args) (At m q l s x ∷ b) (counted (with_heap w h))) (ending set (with_heap w h) Stop cause.Depth))
+          by : (z : Bool) → CalledAs set more (cond z (Run c 0 (entered set.program c args).locals [] (self_of set.program c args) (At top.method q l s x ∷ b) (counted (with_heap w h))) (ending set (with_heap w h) Stop cause.Depth))
           by true = ((from, enters), all)
           by false = ended set (CalledAs set more) (λ o. tt) (with_heap w h) cause.Depth
       effect_called (Asks c args q l s h) from enters =
-          asks_so set (CalledAs set more) (λ o. tt) (with_heap w h) (λ after v. Run m q l (push v s) x b after) (λ after v e. went q l (push v s) after e) (native_of set.program c) args
-      effect_called (Returns v h) from enters = returned v h m x b w main all
-      effect_called (Raises why) from enters = ended set (CalledAs set more) (λ o. tt) w why
-      effect_called (Throws object class why) from enters = ended set (CalledAs set more) (λ o. tt) w why
+          asks_so set (CalledAs set more) (λ o. tt) (with_heap w h) (λ after v. Run top.method q l (push v s) x b after) (λ after v e. went q l (push v s) after e) (raised_behind set (At top.method q l s x ∷ b) (with_heap w h))
+          (λ why. raised (with_heap w h) refl why (λ c. left_behind set.program c (Ref w.next) (At top.method q l s x ∷ b)) (raised_class set.program other_index why) (λ c. behind_called set.program c (Ref w.next) more w.kept (At top.method q l s x ∷ b) all)) (native_of set.program c) args
+      effect_called (Returns v h) from enters = returned v h top.method x b w main all
+      effect_called (Raises why) from enters =
+          raised w refl why (λ c. left_at set.program c (Ref w.next) top x b) (raised_class set.program (index_at set.program top) why) (λ c. at_called set.program c (Ref w.next) more w.kept top x b all)
+      effect_called (Throws n c why) from enters =
+          thrown_has set (CalledAs set more) (counted w) why (ended set (CalledAs set more) (λ o. tt) (counted w) why) (counted w) (left_at set.program c (Ref n) top x b)
+          (λ f fs d. stands f fs (counted w) refl (subst (AreCalled set.program more w.kept) d (at_called set.program c (Ref n) more w.kept top x b all)))
       effect_called (Ends why) from enters = ended set (CalledAs set more) (λ o. tt) w why
       effect_called Stuck from enters = tt
 
@@ -169,7 +188,7 @@ module _ (set : Setting) (run : IsRunOfAccepted set) where
         let top = well.fits.fits.frames.0 in
         let v = (is_verified set run.keeps run.form run.well run.accepted run.main run.begins).verified in
         let own : fetched top.method.code top.method.code_length p ≡ Some (i, to) = ap (λ (o : Option Method). code_in o p) (sym top.there) ∙ f in
-        let at = stands_at set.program top.method (typing_at set.program m) (v.typed m top.method top.there top.code) p i to own in
+        let at = typed_at set.program top.method (typing_at set.program m) (v.typed m top.method top.there top.code) p i to own in
         subst (λ (e : Effect). Enters set.program of e) (ap (λ (o : Option Method). does set.program (own_in o) i to l s w.heap) (sym top.there))
         (enters_of set.program of top.method (wants_all m) to l w.heap (edges i to) at.after (does set.program top.method i to l s w.heap)
         (table_fits set.program (facts_hold set.program run.keeps) narrows top.method of w.heap well.fits.fits.heap (wants_all m) p to (typing_at set.program m p) at.after l s i (record {
@@ -184,7 +203,7 @@ module _ (set : Setting) (run : IsRunOfAccepted set) where
     calls_made i to f =
         let top = well.fits.fits.frames.0 in
         let own : fetched top.method.code top.method.code_length p ≡ Some (i, to) = ap (λ (o : Option Method). code_in o p) (sym top.there) ∙ f in
-        let at = stands_at set.program top.method (typing_at set.program m) ((is_verified set run.keeps run.form run.well run.accepted run.main run.begins).verified.typed m top.method top.there top.code) p i to own in
+        let at = typed_at set.program top.method (typing_at set.program m) ((is_verified set run.keeps run.form run.well run.accepted run.main run.begins).verified.typed m top.method top.there top.code) p i to own in
         subst (λ (e : Effect). CallsFrom set.program of m e) (ap (λ (o : Option Method). does set.program (own_in o) i to l s w.heap) (sym top.there))
         (calls_from set.program run.keeps run.form of w.heap well.fits.fits.heap m top.method top.there p to l s
         (stack_there set run.keeps run.form run.well run.accepted run.main run.begins (lone_at m p l s b w) (as_well set run of (lone_at m p l s b w) well)) top.stack (λ k. top.locals.slots k refl) at.after i f at.step
@@ -194,13 +213,13 @@ module _ (set : Setting) (run : IsRunOfAccepted set) where
   step_called of more grows (Stop o) well all = tt
   step_called of more grows (Run m p l s x b w) well all = by (nat_le set.limits.steps w.done)
     where
-      found : (o : Option (Instr × ℕ)) → fetch set.program m p ≡ o → CalledAs set more (found_does set o m l s x b w)
+      found : (o : Option (Instr × ℕ)) → fetch set.program m p ≡ o → CalledAs set more (found_does set o (frame m p l s) x b w)
       found None f = tt
       found (Some at) f =
-          effect_called more m x b w (all_grown of more grows w.kept m x b all) (λ n e. grows n (class_type set.main.0) (well.fits.kept n e)) (does set.program (own_of set.program m) at.0 at.1 l s w.heap)
+          effect_called more (frame m p l s) x b w (all_grown of more grows w.kept m x b all) (λ n e. grows n (class_type set.main.0) (well.fits.kept n e)) (does set.program (own_of set.program m) at.0 at.1 l s w.heap)
           (calls_grown of more grows m (does set.program (own_of set.program m) at.0 at.1 l s w.heap) (calls_made of m p l s x b w well at.0 at.1 f))
           (enters_grown of more grows (does set.program (own_of set.program m) at.0 at.1 l s w.heap) (fits_made of m p l s x b w well at.0 at.1 f))
 
-      by : (z : Bool) → CalledAs set more (cond z (ending set w Stop cause.Spent) (found_does set (fetch set.program m p) m l s x b w))
+      by : (z : Bool) → CalledAs set more (cond z (ending set w Stop cause.Spent) (found_does set (fetch set.program m p) (frame m p l s) x b w))
       by true = ended set (CalledAs set more) (λ o. tt) w cause.Spent
       by false = found (fetch set.program m p) refl

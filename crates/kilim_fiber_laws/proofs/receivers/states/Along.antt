@@ -15,13 +15,12 @@ use Rattle.kilim_run_model.specs.Lone as next
 use Rattle.kilim_run_model.specs.State.{Setting}
 use Rattle.kilim_fiber_laws.proofs.courses.GoesOn.{done_again, follows_one, told}
 use Rattle.kilim_fiber_spec.proofs.lone.Steps.{steps}
-use Rattle.kilim_run_machine.specs.Raising.{NoTables}
 use Rattle.kilim_fiber_spec.specs.lone.Law.{IsActed, IsAt, IsBehind, IsDone, IsLast, IsNext, IsWanted, lone_at, wanted}
 use Rattle.kilim_fiber_spec.specs.Acts.{Action, Astray, Finished, Lost, Over, Wants, World, Apart}
 use Rattle.kilim_fiber_spec.specs.Thread.{Frame, Run, Stop, Thread, step}
 use Rattle.kilim_fiber_spec.specs.Thread as thread
 use Rattle.kilim_fiber_laws.proofs.receivers.states.Worlds.{Shows, WorldIs, step_shows}
-use Rattle.kilim_fiber_laws.specs.receivers.states.Law.{IsAlong, Likewise, StandsBefore, acts_of, world_at}
+use Rattle.kilim_fiber_laws.specs.receivers.states.Law.{ended_in, wanted_in, IsAlong, Likewise, StandsBefore, acts_of, world_at}
 
 -- ---- lists of deeds
 
@@ -87,7 +86,7 @@ module _ (set : Setting) (k : ℕ) (b : Beginning) (ds0 : List Deed) where
     pub of : IsOf set k (course done) here
     pub after : Lone
     pub ends : done_by set (next_move set k here) (record { act = End why; taken = final.taken }) ≡ Some (record { act = End why; after = after })
-    pub world : w ≡ world_at k here (final ∷ []) (acts_of done [])
+    pub world : w ≡ ended_in why (world_at k here (final ∷ []) (acts_of done []))
 
   abbrev pub Along : Thread → Type 0
   Along (Run m p l s x below w) = (w.task ≡ k) × (w.aside ≡ []) × Held (lone_at m p l s below w) w.deeds w.acts
@@ -152,7 +151,7 @@ module _ (set : Setting) (k : ℕ) (b : Beginning) (ds0 : List Deed) where
           of = held.of;
           after = y.after;
           ends = ap (λ (z : Next). done_by set z (record { act = End why; taken = d.taken })) e ∙ (subst (λ (a : Act). done_by set n (record { act = a; taken = d.taken }) ≡ Some (record { act = a; after = y.after })) act (done_again set n d y did));
-          world = shown (Finished why is.0) (world_at k l (d ∷ []) acts) t shows is.1 ∙ ap (λ (z : List Act). world_at k l (d ∷ []) z) held.acted;
+          world = shown (Finished why is.0) (world_at k l (d ∷ []) acts) t shows is.1 ∙ ap (λ (z : List Act). ended_in why (world_at k l (d ∷ []) z)) held.acted;
         }) is.1
 
     behind : (n : Next) → next_move set k l ≡ n → is_act n ≡ true → (d : Deed) (rest : List Deed) → Held l (d ∷ rest) acts → (y : Done) → done_by set n d ≡ Some y → (act : Act) → y.act ≡ act → (t : Thread) → Shows (world_at k l (d ∷ rest) acts) t → IsBehind act rest acts k [] y.after t → Along t
@@ -182,7 +181,7 @@ module _ (set : Setting) (k : ℕ) (b : Beginning) (ds0 : List Deed) where
             of = held.of;
             after = wish.1;
             wants = ap wanted e ∙ w;
-            world = shown (Wants wish.0 is.0) (world_at k l [] acts) t shows is.1 ∙ ap (λ (z : List Act). world_at k l [] z) held.acted;
+            world = shown (Wants wish.0 is.0) (world_at k l [] acts) t shows is.1 ∙ ap (λ (z : List Act). wanted_in wish.0 (world_at k l [] z)) held.acted;
           };
         }) is.1
 
@@ -203,15 +202,15 @@ module _ (set : Setting) (k : ℕ) (b : Beginning) (ds0 : List Deed) where
     next_along ds held (next.Ends why after) e t shows at = acts_at (next.Ends why after) e refl ds held t shows at
     next_along ds held next.Stands e t shows at = over Lost t tt at
 
-  step_along : NoTables set.program → (t : Thread) → Along t → Along (step set t)
-  step_along none (Stop o) along = along
-  step_along none (Run m p l s x below w) along =
+  step_along : (t : Thread) → Along t → Along (step set t)
+  step_along (Stop o) along = along
+  step_along (Run m p l s x below w) along =
       next_along (lone_at m p l s below w) w.acts w.deeds along.2 (next_move set k (lone_at m p l s below w)) refl (step set (Run m p l s x below w))
       (subst (λ (j : ℕ). Shows (world_at j (lone_at m p l s below w) w.deeds w.acts) (step set (Run m p l s x below w))) along.0
       (subst (λ (v : World). Shows v (step set (Run m p l s x below w))) (ap (λ (z : List Apart). record w { aside = z }) along.1) (step_shows set m p l s x below w)))
       (subst (λ (j : ℕ). IsNext set w.deeds w.acts j [] (next_move set j (lone_at m p l s below w)) (step set (Run m p l s x below w))) along.0
-      (subst (λ (z : List Apart). IsNext set w.deeds w.acts w.task z (next_move set w.task (lone_at m p l s below w)) (step set (Run m p l s x below w))) along.1 (steps set none m p l s x below w)))
+      (subst (λ (z : List Apart). IsNext set w.deeds w.acts w.task z (next_move set w.task (lone_at m p l s below w)) (step set (Run m p l s x below w))) along.1 (steps set m p l s x below w)))
 
-  pub steps_along : NoTables set.program → (n : ℕ) (t : Thread) → Along t → Along (thread.steps set n t)
-  steps_along none zero t along = along
-  steps_along none (suc n) t along = steps_along none n (step set t) (step_along none t along)
+  pub steps_along : (n : ℕ) (t : Thread) → Along t → Along (thread.steps set n t)
+  steps_along zero t along = along
+  steps_along (suc n) t along = steps_along n (step set t) (step_along t along)

@@ -15,7 +15,6 @@ use Rattle.kilim_run_model.specs.Lone as next
 use Rattle.kilim_run_model.specs.State.{Setting}
 use Rattle.kilim_fiber_laws.proofs.courses.GoesOn.{follows_one}
 use Rattle.kilim_fiber_spec.proofs.lone.Steps as rows
-use Rattle.kilim_run_machine.specs.Raising.{NoTables}
 use Rattle.kilim_fiber_spec.specs.lone.Law.{IsActed, IsAt, IsBehind, IsDone, IsNext, lone_at}
 use Rattle.kilim_fiber_spec.specs.Acts.{World, Apart}
 use Rattle.kilim_fiber_spec.specs.Thread.{Frame, Run, Stop, Thread, step, steps}
@@ -90,8 +89,8 @@ module _ (set : Setting) (k : ℕ) where
     pub next : IsNext set ds acts k [] (next_move set k l) (steps set at t)
     pub world : Shows (world_at k l ds acts) (steps set at t)
 
-  lands_run : NoTables set.program → (l : Lone) (ds : List Deed) (acts : List Act) (t : Thread) (n : ℕ) (m : MethodId) (p : ℕ) (ls s : List Value) (x : Value) (b : List Frame) (w : World) → steps set n t ≡ Run m p ls s x b w → IsAt l ds acts k [] (Run m p ls s x b w) → Lands l ds acts t
-  lands_run none l ds acts t n m p ls s x b w e is =
+  lands_run : (l : Lone) (ds : List Deed) (acts : List Act) (t : Thread) (n : ℕ) (m : MethodId) (p : ℕ) (ls s : List Value) (x : Value) (b : List Frame) (w : World) → steps set n t ≡ Run m p ls s x b w → IsAt l ds acts k [] (Run m p ls s x b w) → Lands l ds acts t
+  lands_run l ds acts t n m p ls s x b w e is =
       let now : steps set (suc n) t ≡ step set (Run m p ls s x b w) = one_step set n t ∙ ap (step set) e in
       let world : w ≡ world_at k l ds acts =
       ap (λ (z : List Apart). record w { aside = z }) is.4
@@ -104,22 +103,22 @@ module _ (set : Setting) (k : ℕ) where
             (subst (λ (z : List Deed). IsNext set z acts k [] (next_move set k (lone_at m p ls s b w)) (step set (Run m p ls s x b w))) is.1
             (subst (λ (z : List Act). IsNext set w.deeds z k [] (next_move set k (lone_at m p ls s b w)) (step set (Run m p ls s x b w))) is.2
             (subst (λ (z : ℕ). IsNext set w.deeds w.acts z [] (next_move set z (lone_at m p ls s b w)) (step set (Run m p ls s x b w))) is.3
-            (subst (λ (z : List Apart). IsNext set w.deeds w.acts w.task z (next_move set w.task (lone_at m p ls s b w)) (step set (Run m p ls s x b w))) is.4 (rows.steps set none m p ls s x b w))))));
+            (subst (λ (z : List Apart). IsNext set w.deeds w.acts w.task z (next_move set w.task (lone_at m p ls s b w)) (step set (Run m p ls s x b w))) is.4 (rows.steps set m p ls s x b w))))));
         world = subst (λ (z : Thread). Shows (world_at k l ds acts) z) (sym now) (subst (λ (v : World). Shows v (step set (Run m p ls s x b w))) world (step_shows set m p ls s x b w));
       }
 
-  pub lands_at : NoTables set.program → (l : Lone) (ds : List Deed) (acts : List Act) (t : Thread) (n : ℕ) → IsAt l ds acts k [] (steps set n t) → Lands l ds acts t
-  lands_at none l ds acts t n is = by (steps set n t) refl is
+  pub lands_at : (l : Lone) (ds : List Deed) (acts : List Act) (t : Thread) (n : ℕ) → IsAt l ds acts k [] (steps set n t) → Lands l ds acts t
+  lands_at l ds acts t n is = by (steps set n t) refl is
     where
       by : (u : Thread) → steps set n t ≡ u → IsAt l ds acts k [] u → Lands l ds acts t
-      by (Run m p ls s x b w) e is = lands_run none l ds acts t n m p ls s x b w e is
+      by (Run m p ls s x b w) e is = lands_run l ds acts t n m p ls s x b w e is
       by (Stop o) e is = absurd is
 
-  pub lands_quiet : NoTables set.program → (a c : Lone) (ds : List Deed) (acts : List Act) (t : Thread) → Quiet set k a c → Lands a ds acts t → Lands c ds acts t
-  lands_quiet none a c ds acts t (Stays e) lands = subst (λ (z : Lone). Lands z ds acts t) e lands
-  lands_quiet none a c ds acts t (Moves b q goes) lands =
-      let there = lands_quiet none a b ds acts t q lands in
-      lands_at none c ds acts t there.at (subst (λ (n : Next). IsNext set ds acts k [] n (steps set there.at t)) goes there.next)
+  pub lands_quiet : (a c : Lone) (ds : List Deed) (acts : List Act) (t : Thread) → Quiet set k a c → Lands a ds acts t → Lands c ds acts t
+  lands_quiet a c ds acts t (Stays e) lands = subst (λ (z : Lone). Lands z ds acts t) e lands
+  lands_quiet a c ds acts t (Moves b q goes) lands =
+      let there = lands_quiet a b ds acts t q lands in
+      lands_at c ds acts t there.at (subst (λ (n : Next). IsNext set ds acts k [] n (steps set there.at t)) goes there.next)
 
   -- what a deed does
   pub next_acted : (n : Next) → is_action n ≡ true → (ds : List Deed) (acts : List Act) (t : Thread) → IsNext set ds acts k [] n t → IsActed set ds acts k [] n t
@@ -175,9 +174,9 @@ module _ (set : Setting) (k : ℕ) where
     abbrev pub course : List Deed → Course
     course ds = record { beginning = b; deeds = ds }
 
-    pub follow : NoTables set.program → (ds es rest : List Deed) (l last : Lone) → IsLone set k (course es) l → Follows set k l ds last → is_ended last.thread ≡ false → (acts : List Act) (t : Thread) → Lands l (ds ++ rest) acts t → Lands last rest (acts_of ds acts) t
-    follow none [] es rest l last lone e alive acts t lands = subst (λ (z : Lone). Lands z rest acts t) e lands
-    follow none (d ∷ ds) es rest l last lone (mid, does, later) alive acts t lands = by (is_ended mid.thread) refl (λ more now. follow none ds (es ++ d ∷ []) rest mid last more later alive (d.act ∷ acts) t now)
+    pub follow : (ds es rest : List Deed) (l last : Lone) → IsLone set k (course es) l → Follows set k l ds last → is_ended last.thread ≡ false → (acts : List Act) (t : Thread) → Lands l (ds ++ rest) acts t → Lands last rest (acts_of ds acts) t
+    follow [] es rest l last lone e alive acts t lands = subst (λ (z : Lone). Lands z rest acts t) e lands
+    follow (d ∷ ds) es rest l last lone (mid, does, later) alive acts t lands = by (is_ended mid.thread) refl (λ more now. follow ds (es ++ d ∷ []) rest mid last more later alive (d.act ∷ acts) t now)
       where
         y : Done
         y = record { act = d.act; after = mid }
@@ -192,7 +191,7 @@ module _ (set : Setting) (k : ℕ) where
         more = record { first = lone.first; begins = lone.begins; follows = follows_one set k lone.first l mid es d lone.follows does }
 
         there : Lands a.here (d ∷ ds ++ rest) acts t
-        there = lands_quiet none l a.here (d ∷ ds ++ rest) acts t a.quiet lands
+        there = lands_quiet l a.here (d ∷ ds ++ rest) acts t a.quiet lands
 
         stops : (ds : List Deed) → Follows set k mid ds last → is_ended mid.thread ≡ true → ⊥
         stops [] e ended = false≢true (sym alive ∙ (ap (λ (z : Lone). is_ended z.thread) (sym e) ∙ ended))
@@ -203,4 +202,4 @@ module _ (set : Setting) (k : ℕ) where
         by false e go =
             let no_end : is_end d.act ≡ false = sym (ends_on es d) ∙ (ended_is set k (course (es ++ d ∷ [])) mid (record { last = mid; is = more; quiet = Stays refl }) ∙ e) in
             go more
-            (lands_at none mid (ds ++ rest) (d.act ∷ acts) t there.at (behind_at d.act no_end (ds ++ rest) acts mid (steps set there.at t) (does_deed a.here d (ds ++ rest) acts t there y did)))
+            (lands_at mid (ds ++ rest) (d.act ∷ acts) t there.at (behind_at d.act no_end (ds ++ rest) acts mid (steps set there.at t) (does_deed a.here d (ds ++ rest) acts t there y did)))

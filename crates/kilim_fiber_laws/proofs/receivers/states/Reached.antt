@@ -17,10 +17,9 @@ use Rattle.kilim_fiber_laws.proofs.courses.GoesOn.{follows_one}
 use Rattle.kilim_fiber_spec.specs.lone.Law.{IsNext, wanted}
 use Rattle.kilim_fiber_spec.specs.Acts.{Action, Lost, World}
 use Rattle.kilim_fiber_spec.specs.Thread.{Stop, Thread, steps}
-use Rattle.kilim_run_machine.specs.Raising.{NoTables}
 use Rattle.kilim_fiber_laws.proofs.receivers.states.Along.{append_append, append_none}
 use Rattle.kilim_fiber_laws.proofs.receivers.states.Lands.{Lands, acts_next, course, ends_on, lands_quiet, none_behind}
-use Rattle.kilim_fiber_laws.specs.receivers.states.Law.{EndsBy, StandsBefore, acts_of, world_at}
+use Rattle.kilim_fiber_laws.specs.receivers.states.Law.{ended_in, wanted_in, EndsBy, StandsBefore, acts_of, world_at}
 
 module _ (set : Setting) (k : ℕ) (b : Beginning) where
   -- ---- it has ended
@@ -74,7 +73,7 @@ module _ (set : Setting) (k : ℕ) (b : Beginning) where
       let end = end_is f.final.act (sym (ends_on f.before f.final) ∙ (ended_is set k (course set k b (f.before ++ f.final ∷ [])) f.mid (record { last = f.mid; is = more; quiet = Stays refl }) ∙ f.ended)) in
       let a = acts_next set k f.prev f.final (record { act = f.final.act; after = f.mid }) f.did in (
         end.0,
-        world_at k a.here (f.final ∷ []) (acts_of f.before []),
+        ended_in end.0 (world_at k a.here (f.final ∷ []) (acts_of f.before [])),
         record {
           before = f.before;
           final = f.final;
@@ -95,7 +94,7 @@ module _ (set : Setting) (k : ℕ) (b : Beginning) where
     Reaches = ((n : ℕ) × (steps set n t ≡ Stop Lost)) ⊎ ((a : Action) × (w : World) × StandsBefore set k (course set k b ds) a w)
 
     stands : (l : Lone) → IsOf set k (course set k b ds) l → (x : Next) → next_move set k l ≡ x → (a : Action) (after : Option Lone) → wanted x ≡ Some (a, after) → Reaches
-    stands l of x e a after w = inr (a, world_at k l [] (acts_of ds []), record { here = l; of = of; after = after; wants = ap wanted e ∙ w; world = refl })
+    stands l of x e a after w = inr (a, wanted_in a (world_at k l [] (acts_of ds [])), record { here = l; of = of; after = after; wants = ap wanted e ∙ w; world = refl })
 
     by_next : (l : Lone) → IsOf set k (course set k b ds) l → Lands set k l [] (acts_of ds []) t → (x : Next) → next_move set k l ≡ x → ((after : Lone) → next_move set k l ≡ next.Goes after → Reaches) → Reaches
     by_next l of lands (next.Goes after) e go = go after e
@@ -109,9 +108,9 @@ module _ (set : Setting) (k : ℕ) (b : Beginning) where
     by_next l of lands (next.Ends why after) e go = stands l of (next.Ends why after) e _ _ refl
     by_next l of lands next.Stands e go = inl (lands.at, subst (λ (x : Next). IsNext set [] (acts_of ds []) k [] x (steps set lands.at t)) e lands.next)
 
-    pub run_on : NoTables set.program → (n : ℕ) (l : Lone) → AreLeft set.limits.steps n l.thread → IsOf set k (course set k b ds) l → Lands set k l [] (acts_of ds []) t → Reaches
+    pub run_on : (n : ℕ) (l : Lone) → AreLeft set.limits.steps n l.thread → IsOf set k (course set k b ds) l → Lands set k l [] (acts_of ds []) t → Reaches
     unfolding next_move
-    run_on none zero l left of lands = by_next l of lands (next_move set k l) refl (λ after e. absurd (none_left set k l after l.thread left e))
-    run_on none (suc n) l left of lands =
+    run_on zero l left of lands = by_next l of lands (next_move set k l) refl (λ after e. absurd (none_left set k l after l.thread left e))
+    run_on (suc n) l left of lands =
         by_next l of lands (next_move set k l) refl
-        (λ after e. run_on none n after (one_less set k l after l.thread n left e) (record { last = of.last; is = of.is; quiet = Moves l of.quiet e }) (lands_quiet set k none l after [] (acts_of ds []) t (Moves l (Stays refl) e) lands))
+        (λ after e. run_on n after (one_less set k l after l.thread n left e) (record { last = of.last; is = of.is; quiet = Moves l of.quiet e }) (lands_quiet set k l after [] (acts_of ds []) t (Moves l (Stays refl) e) lands))

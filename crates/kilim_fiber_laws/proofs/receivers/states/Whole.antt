@@ -32,13 +32,12 @@ use Rattle.kilim_fiber_spec.specs.lone.Law.{IsActed, IsAt, IsBehind, IsNext, IsW
 use Rattle.kilim_fiber_spec.specs.Acts.{Action, Finished, Lost, Over, Wants, World, ending, last, spending}
 use Rattle.kilim_fiber_spec.specs.Acts as action
 use Rattle.kilim_fiber_spec.specs.Thread.{Run, Stop, Thread, started, started_in, steps}
-use Rattle.kilim_run_machine.specs.Raising.{NoTables}
 use Rattle.kilim_fiber_laws.proofs.receivers.states.Along.{Along, Before, Ends, Held, acts_on, append_none, deed_same, first_same, next_along, rest_same, same_deeds, steps_along}
 use Rattle.kilim_fiber_laws.proofs.receivers.states.Lands.{Lands, does_deed, ended_quiet, follow, is_action, lands_at, lands_quiet, next_acted}
 use Rattle.kilim_fiber_laws.proofs.receivers.states.Reached.{Final, Reaches, ends_by, final_of, run_on}
 use Rattle.kilim_fiber_laws.proofs.receivers.states.Worlds.{Shows}
 use Rattle.kilim_fiber_laws.proofs.receivers.states.Worlds as worlds
-use Rattle.kilim_fiber_laws.specs.receivers.states.Law.{EndsBy, FollowsCourse, StandsBefore, ThreadAlong, ThreadFollows, acts_of, constructing, first_thread, world_at}
+use Rattle.kilim_fiber_laws.specs.receivers.states.Law.{ended_in, EndsBy, FollowsCourse, StandsBefore, ThreadAlong, ThreadFollows, acts_of, constructing, first_thread, world_at}
 
 -- ---- beginnings
 
@@ -68,8 +67,8 @@ module _ (set : Setting) (k : ℕ) (ds : List Deed) where
       w = world_at k l ds []
 
       by : (z : Bool) → IsNext set ds [] k [] (cond z (next.Ends cause.Spent (ended l cause.Spent)) (next.Ends cause.Done (ended l cause.Done))) (cond z (ending set w Stop cause.Spent) (ending set w Stop cause.Done)) × Shows w (cond z (ending set w Stop cause.Spent) (ending set w Stop cause.Done))
-      by true = (ends_next w (ended l cause.Spent) cause.Spent refl, worlds.ended set w cause.Spent)
-      by false = (ends_next w (ended l cause.Done) cause.Done refl, worlds.ended set w cause.Done)
+      by true = (ends_next w (ended l cause.Spent) cause.Spent refl, worlds.ended set w cause.Spent refl)
+      by false = (ends_next w (ended l cause.Done) cause.Done refl, worlds.ended set w cause.Done refl)
 
   starts_in : (heap : Objects) (n : ℕ) (c : MethodId) (o : Option Method) (l : Lone) → lone_in heap n None (begun_in set.program c 0 o) ≡ Some l → Begins l (started_in set c 0 (world_at k l ds []) o)
   starts_in heap n c None l e = absurd (none-some l e)
@@ -116,7 +115,7 @@ module _ (set : Setting) (k : ℕ) (ds : List Deed) where
 
 -- ---- both directions
 
-module _ (set : Setting) (k : ℕ) (b : Beginning) (ds : List Deed) (l : Lone) (begun : lone_begun set b ≡ Some l) (none : NoTables set.program) where
+module _ (set : Setting) (k : ℕ) (b : Beginning) (ds : List Deed) (l : Lone) (begun : lone_begun set b ≡ Some l) where
   abbrev course : List Deed → Course
   course es = record { beginning = b; deeds = es }
 
@@ -137,7 +136,7 @@ module _ (set : Setting) (k : ℕ) (b : Beginning) (ds : List Deed) (l : Lone) (
   along_first t (inr is) = next_along set k b ds l [] ds held (next_move set k l) refl t is.1 is.0
 
   lands_first : (t : Thread) → Begins set k ds l t → Lands set k l ds [] t
-  lands_first t (inl is) = lands_at set k none l ds [] t 0 is
+  lands_first t (inl is) = lands_at set k l ds [] t 0 is
   lands_first t (inr is) = record { at = 0; next = is.0; world = is.1 }
 
   -- the thread of a course that goes on hasn't ended
@@ -163,24 +162,24 @@ module _ (set : Setting) (k : ℕ) (b : Beginning) (ds : List Deed) (l : Lone) (
   lands_in : (t : Thread) → Lands set k l ds [] t → (before rest : List Deed) → ds ≡ before ++ rest → (last here : Lone) → IsLone set k (course before) last → Quiet set k last here → next_move set k here ≢ next.Stands → Lands set k here rest (acts_of before []) t
   lands_in t lands before rest e last here lone q goes =
       let same : lone.first ≡ l = same_Some lone.first l (sym lone.begins ∙ begun) in
-      lands_quiet set k none last here rest (acts_of before []) t q
-      (follow set k b none before [] rest l last at_first (subst (λ (z : Lone). Follows set k z before last) same lone.follows) (alive last here q goes) [] t (subst (λ (z : List Deed). Lands set k l z [] t) e lands))
+      lands_quiet set k last here rest (acts_of before []) t q
+      (follow set k b before [] rest l last at_first (subst (λ (z : Lone). Follows set k z before last) same lone.follows) (alive last here q goes) [] t (subst (λ (z : List Deed). Lands set k l z [] t) e lands))
 
   module _ (t : Thread) (first : Begins set k ds l t) where
     abbrev Comes : Over → Type 0
     Comes o = (n : ℕ) × (steps set n t ≡ Stop o)
 
     along_to : (o : Over) → Comes o → Along set k b ds (Stop o)
-    along_to o c = subst (Along set k b ds) c.1 (steps_along set k b ds none c.0 t (along_first t first))
+    along_to o c = subst (Along set k b ds) c.1 (steps_along set k b ds c.0 t (along_first t first))
 
     wants_so : (a : Action) (w : World) → Comes (Wants a w) × (w.acts ≡ acts_of ds []) → StandsBefore set k (course ds) a w
     wants_so a w c =
         let x : Before set k b ds a w = along_to (Wants a w) c.0 in
-        let same = same_deeds ds x.done [] [] x.like (sym (ap (λ (v : World). v.acts) x.before.world) ∙ c.1) in
+        let same = same_deeds ds x.done [] [] x.like (sym (ap (λ (v : World). v.acts) x.before.world ∙ worlds.wanted_same (λ (v : World). v.acts) (λ v. refl) a (world_at k x.before.here [] (acts_of x.done []))) ∙ c.1) in
         subst (λ (es : List Deed). StandsBefore set k (course es) a w) same.1 x.before
 
     wants_back : (a : Action) (w : World) → StandsBefore set k (course ds) a w → Comes (Wants a w) × (w.acts ≡ acts_of ds [])
-    wants_back a w s = ((lands.at, is.1 ∙ ap (λ (v : World). Stop (Wants a v)) shown), ap (λ (v : World). v.acts) s.world)
+    wants_back a w s = ((lands.at, is.1 ∙ ap (λ (v : World). Stop (Wants a v)) shown), ap (λ (v : World). v.acts) s.world ∙ worlds.wanted_same (λ (v : World). v.acts) (λ v. refl) a (world_at k s.here [] (acts_of ds [])))
       where
         goes : next_move set k s.here ≢ next.Stands
         goes e = none-some _ (sym (ap wanted e) ∙ s.wants)
@@ -206,7 +205,7 @@ module _ (set : Setting) (k : ℕ) (b : Beginning) (ds : List Deed) (l : Lone) (
       after = x.after;
       is_end = act;
       ends = subst (λ (d : Deed). done_by set (next_move set k x.here) d ≡ Some (record { act = d.act; after = x.after })) (deed_same (record { act = End why; taken = x.final.taken }) x.final (sym act) refl) x.ends;
-      world = subst (λ (es : List Deed). w ≡ world_at k x.here (x.final ∷ []) (acts_of es [])) same x.world;
+      world = subst (λ (es : List Deed). w ≡ ended_in why (world_at k x.here (x.final ∷ []) (acts_of es []))) same x.world;
     }
       where
         x : Ends set k b ds why w
@@ -219,7 +218,7 @@ module _ (set : Setting) (k : ℕ) (b : Beginning) (ds : List Deed) (l : Lone) (
         act = sym (first_same (End why) x.final.act w.acts (acts_of x.were []) acts)
 
         same : x.done ≡ x.were
-        same = (same_deeds x.were x.done [] [] x.like (sym (ap (λ (v : World). v.acts) x.world) ∙ rest_same (End why) x.final.act w.acts (acts_of x.were []) acts)).1
+        same = (same_deeds x.were x.done [] [] x.like (sym (ap (λ (v : World). v.acts) x.world ∙ worlds.ended_same (λ (v : World). v.acts) (λ v. refl) why (world_at k x.here (x.final ∷ []) (acts_of x.done []))) ∙ rest_same (End why) x.final.act w.acts (acts_of x.were []) acts)).1
 
     ends_back : (why : EndCause) (w : World) → EndsBy set k (course ds) why w → Comes (Finished why w) × (End why ∷ w.acts ≡ acts_of ds [])
     ends_back why w s = ((lands.at, is.1 ∙ ap (λ (v : World). Stop (Finished why v)) shown), acts)
@@ -240,7 +239,7 @@ module _ (set : Setting) (k : ℕ) (b : Beginning) (ds : List Deed) (l : Lone) (
         shown = subst (λ (u : Thread). Shows (world_at k s.here (s.final ∷ []) (acts_of s.before [])) u) is.1 lands.world ∙ sym s.world
 
         acts : End why ∷ w.acts ≡ acts_of ds []
-        acts = ap (λ (v : World). End why ∷ v.acts) s.world ∙ (ap (λ (a : Act). a ∷ acts_of s.before []) (sym s.is_end) ∙ (sym (acts_on s.before s.final []) ∙ ap (λ (es : List Deed). acts_of es []) (sym s.deeds)))
+        acts = (ap (λ (v : World). End why ∷ v.acts) s.world ∙ worlds.ended_same (λ (v : World). End why ∷ v.acts) (λ v. refl) why (world_at k s.here (s.final ∷ []) (acts_of s.before []))) ∙ (ap (λ (a : Act). a ∷ acts_of s.before []) (sym s.is_end) ∙ (sym (acts_on s.before s.final []) ∙ ap (λ (es : List Deed). acts_of es []) (sym s.deeds)))
 
     state_so : (last : Lone) → IsLone set k (course ds) last → Comes Lost ⊎ (((a : Action) × (w : World) × StandsBefore set k (course ds) a w) ⊎ ((why : EndCause) × (w : World) × EndsBy set k (course ds) why w))
     state_so last lone =
@@ -253,18 +252,18 @@ module _ (set : Setting) (k : ℕ) (b : Beginning) (ds : List Deed) (l : Lone) (
         goes : is_ended last.thread ≡ false → Lands set k last [] (acts_of ds []) t
         goes alive =
             let same : lone.first ≡ l = same_Some lone.first l (sym lone.begins ∙ begun) in
-            follow set k b none ds [] [] l last at_first (subst (λ (z : Lone). Follows set k z ds last) same lone.follows) alive [] t (subst (λ (z : List Deed). Lands set k l z [] t) (sym (append_none ds)) (lands_first t first))
+            follow set k b ds [] [] l last at_first (subst (λ (z : Lone). Follows set k z ds last) same lone.follows) alive [] t (subst (λ (z : List Deed). Lands set k l z [] t) (sym (append_none ds)) (lands_first t first))
 
         or_else : Reaches set k b ds t → Comes Lost ⊎ (((a : Action) × (w : World) × StandsBefore set k (course ds) a w) ⊎ ((why : EndCause) × (w : World) × EndsBy set k (course ds) why w))
         or_else (inl c) = inl c
         or_else (inr s) = inr (inl s)
 
         by : (is_ended last.thread ≡ false) ⊎ Final set k b [] ds → Comes Lost ⊎ (((a : Action) × (w : World) × StandsBefore set k (course ds) a w) ⊎ ((why : EndCause) × (w : World) × EndsBy set k (course ds) why w))
-        by (inl alive) = or_else (run_on set k b ds t none set.limits.steps last (all_left set.limits.steps last.thread) (record { last = last; is = lone; quiet = Stays refl }) (goes alive))
+        by (inl alive) = or_else (run_on set k b ds t set.limits.steps last (all_left set.limits.steps last.thread) (record { last = last; is = lone; quiet = Stays refl }) (goes alive))
         by (inr f) = inr (inr (ends_by set k b ds f))
 
     on_the_way : (n : ℕ) → ThreadAlong set k (course ds) (steps set n t)
-    on_the_way n = by (steps set n t) (steps_along set k b ds none n t (along_first t first))
+    on_the_way n = by (steps set n t) (steps_along set k b ds n t (along_first t first))
       where
         by : (u : Thread) → Along set k b ds u → ThreadAlong set k (course ds) u
         by (Run m p ls s x below w) along = along
@@ -274,7 +273,7 @@ module _ (set : Setting) (k : ℕ) (b : Beginning) (ds : List Deed) (l : Lone) (
     follows = record { wants = λ a w. (wants_so a w, wants_back a w); ends = λ why w. (ends_so why w, ends_back why w); state = λ last lone. state_so last lone }
 
 pub thread_follows : ThreadFollows
-thread_follows set none fit k c l begun =
+thread_follows set fit k c l begun =
     let t = first_thread set c.beginning (world_at k l c.deeds []) in
     let first = begins set k c.deeds fit c.beginning l begun in
-    (follows set k c.beginning c.deeds l begun none t first, on_the_way set k c.beginning c.deeds l begun none t first)
+    (follows set k c.beginning c.deeds l begun t first, on_the_way set k c.beginning c.deeds l begun t first)

@@ -1,9 +1,9 @@
 -- A program and its woven form share what the rows rest on.
 use Rattle.std.proofs.Common.{◌≡◌, ◌⊎◌, inl, inr, ℕ, zero, suc, ◌<◌, Bool, true, false, eqb, not, ◌&&◌, ◌||◌, List, [], ◌∷◌, ◌++◌, map, length, Option, Some, None, refl, sym, ap, subst, ◌∙◌}
 use Rattle.std.specs.Prelude.{slice_get, codes, if◌then◌else◌, reverse, filter}
-use Rattle.std.specs.List.{flat_map, list_any}
+use Rattle.std.specs.List.{flat_map, list_all, list_any}
 use Rattle.std.specs.Str.{bytes_eq}
-use Rattle.std.proofs.lemmas.Bool.{and_parts, false≢true}
+use Rattle.std.proofs.lemmas.Bool.{and_from, and_parts, false≢true}
 use Rattle.std.proofs.lemmas.Option.{same_Some, slice_get_within}
 use Rattle.kilim_program.specs.declared.class.Class.{Class}
 use Rattle.kilim_program.specs.declared.class.Field.{Field}
@@ -33,7 +33,8 @@ use Rattle.kilim_run_state.specs.Objects.{first_field, first_value, new_object}
 use Rattle.kilim_run_model.specs.State.{Setting}
 use Rattle.kilim_type_spec.specs.Step.{may_name, special_fits}
 use Rattle.kilim_type_spec.specs.Typed.{IsWellTyped}
-use Rattle.kilim_weave_spec.specs.Form.{AllWoven, IsWoven, WovenForm, first_class, has_calls}
+use Rattle.kilim_weave_spec.specs.Form.{AllWoven, IsWoven, WovenForm, first_class, has_calls, woven_as}
+use Rattle.kilim_run_machine.specs.Raising.{NoTables}
 use Rattle.kilim_weave_spec.specs.Woven.{fiber_ty, if_there, pausable_callee}
 use Rattle.kilim_weave_laws.proofs.woven_programs.Methods.{Like, fibers, like}
 use Rattle.kilim_weave_laws.proofs.woven_programs.Theorem as theorem
@@ -76,6 +77,24 @@ module _ (set : Setting) (W : Program) (counted : List (List Bool)) (keeps : Kee
 
   abbrev twin : (id : MethodId) (a : Method) → method_at P id ≡ Some a → Twin P W id a
   twin id a at = names.twin P W counted keeps plainly form id a at
+
+  -- ---- no method has an exception table
+
+  none_as : (z calls : Bool) (a b : Method) (marks : List Bool) → is_empty a.handlers ≡ true → woven_as z calls P a b marks → is_empty b.handlers ≡ true
+  none_as false calls a b marks none w = ap (λ (m : Method). is_empty m.handlers) w.0 ∙ none
+  none_as true false a b marks none w = ap (λ (m : Method). is_empty m.handlers) w.0 ∙ none
+  none_as true true a b marks none w = ap (λ (m : Method). is_empty m.handlers) w.4.method ∙ none
+
+  none_in : (ms ws : List Method) (cs : List (List Bool)) → AllWoven P ms ws cs → list_all (λ (m : Method). is_empty m.handlers) ms ≡ true → list_all (λ (m : Method). is_empty m.handlers) ws ≡ true
+  none_in [] ws cs w none = ap (list_all (λ (m : Method). is_empty m.handlers)) w.0
+  none_in (m ∷ ms) [] cs w none = absurd w
+  none_in (m ∷ ms) (u ∷ ws) [] w none = absurd w
+  none_in (m ∷ ms) (u ∷ ws) (c ∷ cs) w none =
+      let both = and_parts (is_empty m.handlers) (list_all (λ (z : Method). is_empty z.handlers) ms) none in
+      and_from (is_empty u.handlers) _ (none_as m.pausable (has_calls P m) m u c both.0 w.0) (none_in ms ws cs w.1 both.1)
+
+  pub none_woven : NoTables W
+  none_woven = none_in P.methods W.methods counted form.methods keeps.handlers
 
   -- the method in which an instruction stands
   there_of : (m : MethodId) (p : ℕ) (found : _) → fetch P m p ≡ Some found → (u : Method) × (method_at P m ≡ Some u) × (fetched u.code u.code_length p ≡ Some found)
@@ -584,6 +603,7 @@ module _ (set : Setting) (W : Program) (counted : List (List Bool)) (keeps : Kee
       natives = pausing_natives;
       same_natives = same_natives;
       same_slots = same_slots;
+      none_catches = (keeps.handlers, none_woven);
       begins = begins;
       begins_alike = begins_alike;
     }

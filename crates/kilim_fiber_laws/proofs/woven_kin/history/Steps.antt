@@ -37,7 +37,10 @@ use Rattle.kilim_fiber_laws.specs.woven_kin.Standing.{Standing}
 use Rattle.kilim_fiber_spec.specs.Acts.{Lost, World, counted, ending, gives_arg, native_does, prints, puts, puts_value, receives, starts, with_heap, put_waits, bounds, Apart, Wants, together}
 use Rattle.kilim_fiber_spec.specs.Acts as action
 use Rattle.kilim_run_model.specs.Course.{plain}
-use Rattle.kilim_fiber_spec.specs.Fibers.{Fib, Fiber_at, Resting, Saved, WRun, WStop, Woven_state, as_member, before, enter, executes_on, first_receiver, gets, handed_does, is_pausing, is_rewinding, marked, marks_of, member_does, rewound, spending_if, tick, wasks, wbegins, wbegins_in, wcode_in, weffect, wfetch, wfinishes, wfound, without_fiber, wnative, wreturns, wresumes, wstep, yields, put_again, puts_kept, putting, waits, waits_again, waits_on}
+use Rattle.kilim_fiber_laws.proofs.simulation.Uncaught.{wbehind_over, wraises_over, wthrows_over}
+use Rattle.kilim_run_machine.specs.Raising.{NoTables, index_at, raised_class}
+use Rattle.kilim_program.specs.declared.names.ClassId.{ClassId}
+use Rattle.kilim_fiber_spec.specs.Fibers.{frame, wraised_behind, Fib, Fiber_at, Resting, Saved, WRun, WStop, Woven_state, as_member, before, enter, executes_on, first_receiver, gets, handed_does, is_pausing, is_rewinding, marked, marks_of, member_does, rewound, spending_if, tick, wasks, wbegins, wbegins_in, wcode_in, weffect, wfetch, wfinishes, wfound, without_fiber, wnative, wreturns, wresumes, wstep, yields, put_again, puts_kept, putting, waits, waits_again, waits_on}
 use Rattle.kilim_fiber_spec.specs.Thread.{own_in, own_of, push}
 
 -- ---- the instruction at a place
@@ -96,7 +99,7 @@ abbrev is_none : Option (List Value) → Bool
 is_none (Some []) = true
 is_none o = false
 
-module _ (set : Setting) (W : Program) (marks : List (List Bool)) (t : ℕ) where
+module _ (set : Setting) (W : Program) (marks : List (List Bool)) (none : NoTables W) (t : ℕ) where
   abbrev Is : Outcome → Next → Type 0
   Is out next = Does set t out next
 
@@ -127,30 +130,37 @@ module _ (set : Setting) (W : Program) (marks : List (List Bool)) (t : ℕ) wher
     abbrev here : List Deed → List Act → World
     here rest acts = world_of t z rest acts
 
+    abbrev raise : Fib → World → List ℕ → EndCause → Woven_state
+    raise = wraised_behind set W marks (frame m p l s ∷ b)
+
+    -- nothing catches what is raised
+    raised_at : (why : EndCause) → Is (λ rest acts ps. raise z.fiber (here rest acts) ps why) (Ends why)
+    raised_at why acts more = (counted (here [] acts), wbehind_over set W marks none (frame m p l s ∷ b) z.fiber (here [] acts) (0 ∷ more) why, refl)
+
     -- where no verified code comes
-    lost_so : (o : Option (List Value)) (n : Native) (args : List Value) → native_next set at_call n args ≡ Stands → ((acts : List Act) (more : List ℕ) → handed_does set W marks go n o z.fiber (here [] acts) (0 ∷ more) ≡ WStop Lost) →
-        Is (λ rest acts ps. handed_does set W marks go n o z.fiber (here rest acts) ps) (native_next set at_call n args)
-    lost_so o n args stands lost = subst (λ (y : Next). Is (λ rest acts ps. handed_does set W marks go n o z.fiber (here rest acts) ps) y) (sym stands) lost
+    lost_so : (o : Option (List Value)) (n : Native) (args : List Value) → native_next set at_call n args ≡ Stands → ((acts : List Act) (more : List ℕ) → handed_does set W marks go raise n o z.fiber (here [] acts) (0 ∷ more) ≡ WStop Lost) →
+        Is (λ rest acts ps. handed_does set W marks go raise n o z.fiber (here rest acts) ps) (native_next set at_call n args)
+    lost_so o n args stands lost = subst (λ (y : Next). Is (λ rest acts ps. handed_does set W marks go raise n o z.fiber (here rest acts) ps) y) (sym stands) lost
 
     -- a built-in method without the fiber among its arguments
     abbrev Plainly : Native → List Value → Outcome
-    Plainly n args rest acts ps = native_does set (here rest acts) WStop (λ after v. go z.fiber after ps v) n args
+    Plainly n args rest acts ps = native_does set (here rest acts) WStop (λ after v. go z.fiber after ps v) (raise z.fiber (here rest acts) ps) n args
 
     put_so : (box : BoxName) (n : ℕ) (o : Option (List Token)) → Is (λ rest acts ps. puts set (here rest acts) WStop (λ after v. go z.fiber after ps v) box n o) (put_next at_call box n o)
     put_so box n None = ends_at z cause.Large
     put_so box n (Some shape) = (λ acts more. (here [] acts, refl, refl, refl, refl, refl, refl), λ k rest acts ps. refl)
 
-    message_so : (box : BoxName) (v : Value) → Is (λ rest acts ps. puts_value set (here rest acts) WStop (λ after u. go z.fiber after ps u) box v) (message_next set.program at_call box v)
-    message_so box Null = ends_at z cause.Null
+    message_so : (box : BoxName) (v : Value) → Is (λ rest acts ps. puts_value set (here rest acts) WStop (λ after u. go z.fiber after ps u) (raise z.fiber (here rest acts) ps) box v) (message_next set.program at_call box v)
+    message_so box Null = raised_at cause.Null
     message_so box (Ref n) = put_so box n (shape_of set.program z.heap n)
     message_so box _ = λ acts more. refl
 
     -- a put that waits is made now
     abbrev put_now : List Deed → List Act → List ℕ → List Value → Woven_state
-    put_now rest acts ps args = native_does set (here rest acts) WStop (λ after v. go (rewound z.fiber) after ps v) native.PutWait args
+    put_now rest acts ps args = native_does set (here rest acts) WStop (λ after v. go (rewound z.fiber) after ps v) (raise z.fiber (here rest acts) ps) native.PutWait args
 
     put_wait_so : (box : BoxName) (n : ℕ) (o : Option (List Token)) → shape_of set.program z.heap n ≡ o → nat_le set.limits.steps z.done ≡ false →
-        Is (λ rest acts ps. waits set W marks go (Box box ∷ Ref n ∷ []) z.fiber (here rest acts) ps) (put_wait_next set.program at_call box n o)
+        Is (λ rest acts ps. waits set W marks go raise (Box box ∷ Ref n ∷ []) z.fiber (here rest acts) ps) (put_wait_next set.program at_call box n o)
     put_wait_so box n None has left = λ acts more. (
       here [] acts,
       ap (λ (c : Bool). cond c (ending set (here [] acts) WStop cause.Spent) (put_now [] acts more (Box box ∷ Ref n ∷ []))) left ∙ ap (λ (o : Option (List Token)). put_waits set (here [] acts) WStop (λ after v. go (rewound z.fiber) after more v) box n o) has,
@@ -166,34 +176,38 @@ module _ (set : Setting) (W : Program) (marks : List (List Bool)) (t : ℕ) wher
         refl,
         refl,
       ),
-      λ rest acts k ps. ap (λ (o : Option (List Token)). waits_on set W marks go box n o z.fiber (here rest acts) k ps) has,
+      λ rest acts k ps. ap (λ (o : Option (List Token)). waits_on set W marks go raise box n o z.fiber (here rest acts) k ps) has,
       λ k rest acts ps.
           ap (λ (c : Bool). cond c (ending set (here (plain (act.Put box k shape) ∷ rest) acts) WStop cause.Spent) (put_now (plain (act.Put box k shape) ∷ rest) acts ps (Box box ∷ Ref n ∷ []))) left
           ∙ ap (λ (o : Option (List Token)). put_waits set (here (plain (act.Put box k shape) ∷ rest) acts) WStop (λ after v. go (rewound z.fiber) after ps v) box n o) has,
     )
 
-    wait_so : (box : BoxName) (v : Value) → nat_le set.limits.steps z.done ≡ false → Is (λ rest acts ps. waits set W marks go (Box box ∷ v ∷ []) z.fiber (here rest acts) ps) (wait_next set.program at_call box v)
-    wait_so box Null left = λ acts more. (here [] acts, ap (λ (c : Bool). cond c (ending set (here [] acts) WStop cause.Spent) (put_now [] acts more (Box box ∷ Null ∷ []))) left, refl)
+    wait_so : (box : BoxName) (v : Value) → nat_le set.limits.steps z.done ≡ false → Is (λ rest acts ps. waits set W marks go raise (Box box ∷ v ∷ []) z.fiber (here rest acts) ps) (wait_next set.program at_call box v)
+    wait_so box Null left = λ acts more. (
+      counted (here [] acts),
+      ap (λ (c : Bool). cond c (ending set (here [] acts) WStop cause.Spent) (put_now [] acts more (Box box ∷ Null ∷ []))) left ∙ wbehind_over set W marks none (frame m p l s ∷ b) z.fiber (here [] acts) more cause.Null,
+      refl,
+    )
     wait_so box (Ref n) left = put_wait_so box n (shape_of set.program z.heap n) refl left
     wait_so box v left = λ acts more. ap (λ (c : Bool). cond c (ending set (here [] acts) WStop cause.Spent) (WStop Lost)) left
 
-    first_so : (v u : Value) → nat_le set.limits.steps z.done ≡ false → Is (λ rest acts ps. waits set W marks go (v ∷ u ∷ []) z.fiber (here rest acts) ps) (first_wait set.program at_call v u)
+    first_so : (v u : Value) → nat_le set.limits.steps z.done ≡ false → Is (λ rest acts ps. waits set W marks go raise (v ∷ u ∷ []) z.fiber (here rest acts) ps) (first_wait set.program at_call v u)
     first_so (Box box) u left = wait_so box u left
     first_so v u left = λ acts more. ap (λ (c : Bool). cond c (ending set (here [] acts) WStop cause.Spent) (WStop Lost)) left
 
-    waits_so : (v u : Value) → Is (λ rest acts ps. waits set W marks go (v ∷ u ∷ []) z.fiber (here rest acts) ps) (spent_or set true z.done (first_wait set.program at_call v u))
+    waits_so : (v u : Value) → Is (λ rest acts ps. waits set W marks go raise (v ∷ u ∷ []) z.fiber (here rest acts) ps) (spent_or set true z.done (first_wait set.program at_call v u))
     waits_so v u = by (nat_le set.limits.steps z.done) refl
       where
-        over : (xs : List Value) (acts : List Act) (more : List ℕ) → waits set W marks go xs z.fiber (here [] acts) (0 ∷ more) ≡ cond (nat_le set.limits.steps z.done) (ending set (here [] acts) WStop cause.Spent) (put_now [] acts more xs)
+        over : (xs : List Value) (acts : List Act) (more : List ℕ) → waits set W marks go raise xs z.fiber (here [] acts) (0 ∷ more) ≡ cond (nat_le set.limits.steps z.done) (ending set (here [] acts) WStop cause.Spent) (put_now [] acts more xs)
         over (Box box ∷ Ref n ∷ []) acts more = refl
         over xs acts more = refl
 
-        by : (c : Bool) → nat_le set.limits.steps z.done ≡ c → Is (λ rest acts ps. waits set W marks go (v ∷ u ∷ []) z.fiber (here rest acts) ps) (cond c (Ends cause.Spent) (first_wait set.program at_call v u))
+        by : (c : Bool) → nat_le set.limits.steps z.done ≡ c → Is (λ rest acts ps. waits set W marks go raise (v ∷ u ∷ []) z.fiber (here rest acts) ps) (cond c (Ends cause.Spent) (first_wait set.program at_call v u))
         by true e = λ acts more. (here [] acts, over (v ∷ u ∷ []) acts more ∙ ap (λ (c : Bool). cond c (ending set (here [] acts) WStop cause.Spent) (put_now [] acts more (v ∷ u ∷ []))) e, refl)
         by false e = first_so v u e
 
     -- made again
-    again_left : (box : BoxName) (kept : Apart) (others : List Apart) → nat_le set.limits.steps z.done ≡ false → Is (λ rest acts ps. waits_again set W marks go box kept others z.fiber (here rest acts) ps)
+    again_left : (box : BoxName) (kept : Apart) (others : List Apart) → nat_le set.limits.steps z.done ≡ false → Is (λ rest acts ps. waits_again set W marks go raise box kept others z.fiber (here rest acts) ps)
         (PutsAgain box kept.root kept.shape (taken_at (record at_call { heap = kept.heap; aside = others })) (waiting_at box at_call) (taken_at (record at_call { aside = others })))
     again_left box kept others left = (
       λ acts more. (
@@ -208,13 +222,13 @@ module _ (set : Setting) (W : Program) (marks : List (List Bool)) (t : ℕ) wher
       λ rest acts k ps. refl,
       λ k rest acts ps.
           ap (λ (c : Bool). cond c (ending set (together kept.heap others (here (plain (act.Put box k kept.shape) ∷ rest) acts)) WStop cause.Spent)
-          (put_again set W marks go box kept.shape z.fiber (here (plain (act.Put box k kept.shape) ∷ rest) acts) (together kept.heap others (here (plain (act.Put box k kept.shape) ∷ rest) acts)) ps (act.Put box k kept.shape) rest)) left,
+          (put_again set W marks go raise box kept.shape z.fiber (here (plain (act.Put box k kept.shape) ∷ rest) acts) (together kept.heap others (here (plain (act.Put box k kept.shape) ∷ rest) acts)) ps (act.Put box k kept.shape) rest)) left,
     )
 
-    again_by : (box : BoxName) (kept : Apart) (others : List Apart) → Is (λ rest acts ps. waits_again set W marks go box kept others z.fiber (here rest acts) ps) (wait_again set at_call (Box box) (kept ∷ others))
+    again_by : (box : BoxName) (kept : Apart) (others : List Apart) → Is (λ rest acts ps. waits_again set W marks go raise box kept others z.fiber (here rest acts) ps) (wait_again set at_call (Box box) (kept ∷ others))
     again_by box kept others = by (nat_le set.limits.steps z.done) refl
       where
-        by : (c : Bool) → nat_le set.limits.steps z.done ≡ c → Is (λ rest acts ps. waits_again set W marks go box kept others z.fiber (here rest acts) ps)
+        by : (c : Bool) → nat_le set.limits.steps z.done ≡ c → Is (λ rest acts ps. waits_again set W marks go raise box kept others z.fiber (here rest acts) ps)
             (cond c (Ends cause.Spent) (PutsAgain box kept.root kept.shape (taken_at (record at_call { heap = kept.heap; aside = others })) (waiting_at box at_call) (taken_at (record at_call { aside = others }))))
         by true e = λ acts more. (
           together kept.heap others (here [] acts),
@@ -223,20 +237,20 @@ module _ (set : Setting) (W : Program) (marks : List (List Bool)) (t : ℕ) wher
         )
         by false e = again_left box kept others e
 
-    again_so : (v u : Value) (kept : List Apart) → Is (λ rest acts ps. puts_kept set W marks go kept (v ∷ u ∷ []) z.fiber (here rest acts) ps) (wait_again set at_call v kept)
+    again_so : (v u : Value) (kept : List Apart) → Is (λ rest acts ps. puts_kept set W marks go raise kept (v ∷ u ∷ []) z.fiber (here rest acts) ps) (wait_again set at_call v kept)
     again_so (Box box) u (kept ∷ others) = again_by box kept others
     again_so (Box box) u [] = λ acts more. refl
     again_so v u [] = λ acts more. refl
     again_so v u (kept ∷ others) = λ acts more. refl
 
-    putting_so : (v u : Value) (f : Fib) → z.fiber ≡ f → Is (λ rest acts ps. putting set W marks go (v ∷ u ∷ []) f (here rest acts) ps) (putw_next set (is_rewinding f) at_call v u)
-    putting_so v u (Fiber_at lo r de true pa) e = subst (λ (g : Fib). Is (λ rest acts ps. puts_kept set W marks go z.aside (v ∷ u ∷ []) g (here rest acts) ps) (wait_again set at_call v z.aside)) e (again_so v u z.aside)
-    putting_so v u (Fiber_at lo r de false pa) e = subst (λ (g : Fib). Is (λ rest acts ps. waits set W marks go (v ∷ u ∷ []) g (here rest acts) ps) (spent_or set true z.done (first_wait set.program at_call v u))) e (waits_so v u)
+    putting_so : (v u : Value) (f : Fib) → z.fiber ≡ f → Is (λ rest acts ps. putting set W marks go raise (v ∷ u ∷ []) f (here rest acts) ps) (putw_next set (is_rewinding f) at_call v u)
+    putting_so v u (Fiber_at lo r de true pa) e = subst (λ (g : Fib). Is (λ rest acts ps. puts_kept set W marks go raise z.aside (v ∷ u ∷ []) g (here rest acts) ps) (wait_again set at_call v z.aside)) e (again_so v u z.aside)
+    putting_so v u (Fiber_at lo r de false pa) e = subst (λ (g : Fib). Is (λ rest acts ps. waits set W marks go raise (v ∷ u ∷ []) g (here rest acts) ps) (spent_or set true z.done (first_wait set.program at_call v u))) e (waits_so v u)
 
-    bound_so : (box : BoxName) (i : ℤ) → Is (λ rest acts ps. bounds set (here rest acts) WStop (λ after v. go z.fiber after ps v) box i) (bound_next at_call box i)
+    bound_so : (box : BoxName) (i : ℤ) → Is (λ rest acts ps. bounds set (here rest acts) WStop (λ after v. go z.fiber after ps v) (raise z.fiber (here rest acts) ps) box i) (bound_next at_call box i)
     bound_so box (pos (suc n)) = (λ acts more. (here [] acts, refl, refl, refl, refl, refl, refl), λ rest acts ps. refl)
-    bound_so box (pos zero) = ends_at z cause.Size
-    bound_so box (negsuc n) = ends_at z cause.Size
+    bound_so box (pos zero) = raised_at cause.Size
+    bound_so box (negsuc n) = raised_at cause.Size
 
     start_so : (n : ℕ) (o : Option (List Token)) → Is (λ rest acts ps. starts set (here rest acts) WStop (λ after v. go z.fiber after ps v) n o) (start_next at_call n o)
     start_so n None = ends_at z cause.Large
@@ -246,8 +260,8 @@ module _ (set : Setting) (W : Program) (marks : List (List Bool)) (t : ℕ) wher
     print_so None = λ acts more. refl
     print_so (Some token) = (λ acts more. (here [] acts, refl, refl, refl, refl, refl, refl), λ rest acts ps. refl)
 
-    arg_so : (o : Option ℤ) → Is (λ rest acts ps. gives_arg set (here rest acts) WStop (λ after v. go z.fiber after ps v) o) (arg_next at_call o)
-    arg_so None = ends_at z cause.Index
+    arg_so : (o : Option ℤ) → Is (λ rest acts ps. gives_arg set (here rest acts) WStop (λ after v. go z.fiber after ps v) (raise z.fiber (here rest acts) ps) o) (arg_next at_call o)
+    arg_so None = raised_at cause.Index
     arg_so (Some n) = λ rest acts ps. refl
 
     -- a tree of the shape in the deed comes
@@ -260,7 +274,7 @@ module _ (set : Setting) (W : Program) (marks : List (List Bool)) (t : ℕ) wher
     )
 
     -- a `get` of a mailbox, with instructions left
-    mailbox_so : (box : BoxName) → nat_le set.limits.steps z.done ≡ false → Is (λ rest acts ps. gets set W marks go (Box box ∷ []) (Box box) z.fiber (here rest acts) ps) (Gets box (paused_at box at_call) (taken_at at_call))
+    mailbox_so : (box : BoxName) → nat_le set.limits.steps z.done ≡ false → Is (λ rest acts ps. gets set W marks go raise (Box box ∷ []) (Box box) z.fiber (here rest acts) ps) (Gets box (paused_at box at_call) (taken_at at_call))
     mailbox_so box left = (
       λ acts more. (here [] acts, ap (λ (c : Bool). cond c (ending set (here [] acts) WStop cause.Spent) (takes_by [] acts more)) left, refl, refl, refl, refl, refl),
       λ rest acts k ps. refl,
@@ -270,25 +284,25 @@ module _ (set : Setting) (W : Program) (marks : List (List Bool)) (t : ℕ) wher
     )
       where
         takes_by : List Deed → List Act → List ℕ → Woven_state
-        takes_by rest acts ps = native_does set (here rest acts) WStop (λ after v. go (rewound z.fiber) after ps v) native.Get (Box box ∷ [])
+        takes_by rest acts ps = native_does set (here rest acts) WStop (λ after v. go (rewound z.fiber) after ps v) (raise z.fiber (here rest acts) ps) native.Get (Box box ∷ [])
 
     -- of something else
-    other_so : (v : Value) → nat_le set.limits.steps z.done ≡ false → Is (λ rest acts ps. gets set W marks go (v ∷ []) v z.fiber (here rest acts) ps) (get_next at_call v)
+    other_so : (v : Value) → nat_le set.limits.steps z.done ≡ false → Is (λ rest acts ps. gets set W marks go raise (v ∷ []) v z.fiber (here rest acts) ps) (get_next at_call v)
     other_so (Box box) left = mailbox_so box left
     other_so _ left = λ acts more. ap (λ (c : Bool). cond c (ending set (here [] acts) WStop cause.Spent) (WStop Lost)) left
 
-    get_so : (v : Value) → Is (λ rest acts ps. gets set W marks go (v ∷ []) v z.fiber (here rest acts) ps) (spent_or set true z.done (get_next at_call v))
+    get_so : (v : Value) → Is (λ rest acts ps. gets set W marks go raise (v ∷ []) v z.fiber (here rest acts) ps) (spent_or set true z.done (get_next at_call v))
     get_so v = by (nat_le set.limits.steps z.done) refl
       where
-        by : (c : Bool) → nat_le set.limits.steps z.done ≡ c → Is (λ rest acts ps. gets set W marks go (v ∷ []) v z.fiber (here rest acts) ps) (cond c (Ends cause.Spent) (get_next at_call v))
+        by : (c : Bool) → nat_le set.limits.steps z.done ≡ c → Is (λ rest acts ps. gets set W marks go raise (v ∷ []) v z.fiber (here rest acts) ps) (cond c (Ends cause.Spent) (get_next at_call v))
         by true e = λ acts more. (
           here [] acts,
-          ap (λ (c : Bool). cond c (ending set (here [] acts) WStop cause.Spent) (native_does set (here [] acts) WStop (λ after u. go (rewound z.fiber) after more u) native.Get (v ∷ []))) e,
+          ap (λ (c : Bool). cond c (ending set (here [] acts) WStop cause.Spent) (native_does set (here [] acts) WStop (λ after u. go (rewound z.fiber) after more u) (raise z.fiber (here [] acts) more) native.Get (v ∷ []))) e,
           refl,
         )
         by false e = other_so v e
 
-    yield_so : (f : Fib) → z.fiber ≡ f → Is (λ rest acts ps. yields set W marks go f (here rest acts) ps) (yield_next (is_rewinding f) (record at_call { fiber = f }))
+    yield_so : (f : Fib) → z.fiber ≡ f → Is (λ rest acts ps. yields set W marks go raise f (here rest acts) ps) (yield_next (is_rewinding f) (record at_call { fiber = f }))
     yield_so (Fiber_at lo r de true pa) e = λ rest acts ps. refl
     yield_so (Fiber_at lo r de false pa) e = λ rest acts ps. refl
 
@@ -313,21 +327,21 @@ module _ (set : Setting) (W : Program) (marks : List (List Bool)) (t : ℕ) wher
     execute_stands (Ref n ∷ Fiber ∷ []) other = absurd (false≢true (sym other))
     execute_stands _ other = refl
 
-    execute_so : (args : List Value) (o : Option (List Value)) → without_fiber args ≡ o → Is (λ rest acts ps. handed_does set W marks go native.Execute o z.fiber (here rest acts) ps) (native_next set at_call native.Execute args)
+    execute_so : (args : List Value) (o : Option (List Value)) → without_fiber args ≡ o → Is (λ rest acts ps. handed_does set W marks go raise native.Execute o z.fiber (here rest acts) ps) (native_next set at_call native.Execute args)
     execute_so args (Some (Ref n ∷ [])) e =
-        subst (λ (us : List Value). Is (λ rest acts ps. handed_does set W marks go native.Execute (Some (Ref n ∷ [])) z.fiber (here rest acts) ps) (native_next set at_call native.Execute us)) (sym (with_fiber args (Ref n ∷ []) e)) (λ rest acts ps. refl)
+        subst (λ (us : List Value). Is (λ rest acts ps. handed_does set W marks go raise native.Execute (Some (Ref n ∷ [])) z.fiber (here rest acts) ps) (native_next set at_call native.Execute us)) (sym (with_fiber args (Ref n ∷ []) e)) (λ rest acts ps. refl)
     execute_so args o e = lost_so o native.Execute args (execute_stands args (ap is_object e)) (λ acts more. refl)
 
     get_stands : (args : List Value) → is_one (without_fiber args) ≡ false → native_next set at_call native.Get args ≡ Stands
     get_stands (v ∷ Fiber ∷ []) other = absurd (false≢true (sym other))
     get_stands _ other = refl
 
-    handed_get : (args : List Value) (o : Option (List Value)) → without_fiber args ≡ o → Is (λ rest acts ps. handed_does set W marks go native.Get o z.fiber (here rest acts) ps) (native_next set at_call native.Get args)
+    handed_get : (args : List Value) (o : Option (List Value)) → without_fiber args ≡ o → Is (λ rest acts ps. handed_does set W marks go raise native.Get o z.fiber (here rest acts) ps) (native_next set at_call native.Get args)
     handed_get args (Some (v ∷ [])) e =
-        subst (λ (us : List Value). Is (λ rest acts ps. handed_does set W marks go native.Get (Some (v ∷ [])) z.fiber (here rest acts) ps) (native_next set at_call native.Get us)) (sym (with_fiber args (v ∷ []) e)) (get_so v)
+        subst (λ (us : List Value). Is (λ rest acts ps. handed_does set W marks go raise native.Get (Some (v ∷ [])) z.fiber (here rest acts) ps) (native_next set at_call native.Get us)) (sym (with_fiber args (v ∷ []) e)) (get_so v)
     handed_get args o e = lost_so o native.Get args (get_stands args (ap is_one e)) (λ acts more. refl)
 
-    lost_put : (o : Option (List Value)) → is_two o ≡ false → (f : Fib) (acts : List Act) (more : List ℕ) → handed_does set W marks go native.PutWait o f (here [] acts) (0 ∷ more) ≡ WStop Lost
+    lost_put : (o : Option (List Value)) → is_two o ≡ false → (f : Fib) (acts : List Act) (more : List ℕ) → handed_does set W marks go raise native.PutWait o f (here [] acts) (0 ∷ more) ≡ WStop Lost
     lost_put None e f acts more = refl
     lost_put (Some []) e f acts more = refl
     lost_put (Some (v ∷ [])) e f acts more = refl
@@ -338,21 +352,21 @@ module _ (set : Setting) (W : Program) (marks : List (List Bool)) (t : ℕ) wher
     put_stands (v ∷ u ∷ Fiber ∷ []) other = absurd (false≢true (sym other))
     put_stands _ other = refl
 
-    handed_put : (args : List Value) (o : Option (List Value)) → without_fiber args ≡ o → Is (λ rest acts ps. handed_does set W marks go native.PutWait o z.fiber (here rest acts) ps) (native_next set at_call native.PutWait args)
+    handed_put : (args : List Value) (o : Option (List Value)) → without_fiber args ≡ o → Is (λ rest acts ps. handed_does set W marks go raise native.PutWait o z.fiber (here rest acts) ps) (native_next set at_call native.PutWait args)
     handed_put args (Some (v ∷ u ∷ [])) e =
-        subst (λ (us : List Value). Is (λ rest acts ps. handed_does set W marks go native.PutWait (Some (v ∷ u ∷ [])) z.fiber (here rest acts) ps) (native_next set at_call native.PutWait us)) (sym (with_fiber args (v ∷ u ∷ []) e)) (putting_so v u z.fiber refl)
+        subst (λ (us : List Value). Is (λ rest acts ps. handed_does set W marks go raise native.PutWait (Some (v ∷ u ∷ [])) z.fiber (here rest acts) ps) (native_next set at_call native.PutWait us)) (sym (with_fiber args (v ∷ u ∷ []) e)) (putting_so v u z.fiber refl)
     handed_put args o e = lost_so o native.PutWait args (put_stands args (ap is_two e)) (λ acts more. lost_put o refl z.fiber acts more)
 
     yield_stands : (args : List Value) → is_none (without_fiber args) ≡ false → native_next set at_call native.Yield args ≡ Stands
     yield_stands (Fiber ∷ []) other = absurd (false≢true (sym other))
     yield_stands _ other = refl
 
-    handed_yield : (args : List Value) (o : Option (List Value)) → without_fiber args ≡ o → Is (λ rest acts ps. handed_does set W marks go native.Yield o z.fiber (here rest acts) ps) (native_next set at_call native.Yield args)
+    handed_yield : (args : List Value) (o : Option (List Value)) → without_fiber args ≡ o → Is (λ rest acts ps. handed_does set W marks go raise native.Yield o z.fiber (here rest acts) ps) (native_next set at_call native.Yield args)
     handed_yield args (Some []) e =
-        subst (λ (us : List Value). Is (λ rest acts ps. handed_does set W marks go native.Yield (Some []) z.fiber (here rest acts) ps) (native_next set at_call native.Yield us)) (sym (with_fiber args [] e)) (yield_so z.fiber refl)
+        subst (λ (us : List Value). Is (λ rest acts ps. handed_does set W marks go raise native.Yield (Some []) z.fiber (here rest acts) ps) (native_next set at_call native.Yield us)) (sym (with_fiber args [] e)) (yield_so z.fiber refl)
     handed_yield args o e = lost_so o native.Yield args (yield_stands args (ap is_none e)) (λ acts more. refl)
 
-    native_so : (n : Native) (args : List Value) → as_member (Some n) ≡ None → Is (λ rest acts ps. wnative set W marks go n args z.fiber (here rest acts) ps) (native_next set at_call n args)
+    native_so : (n : Native) (args : List Value) → as_member (Some n) ≡ None → Is (λ rest acts ps. wnative set W marks go raise n args z.fiber (here rest acts) ps) (native_next set at_call n args)
     native_so native.Execute args o = execute_so args (without_fiber args) refl
     native_so native.Get args o = handed_get args (without_fiber args) refl
     native_so native.Yield args o = handed_yield args (without_fiber args) refl
@@ -367,7 +381,7 @@ module _ (set : Setting) (W : Program) (marks : List (List Bool)) (t : ℕ) wher
     native_so (native.OfFiber member) args o = absurd (cc)
     native_so _ _ o = λ acts more. refl
 
-    asks_so : (n : Option Native) (args : List Value) → Is (λ rest acts ps. wasks set W marks go (as_member n) n args z.fiber (here rest acts) ps) (asks_next set at_call args n)
+    asks_so : (n : Option Native) (args : List Value) → Is (λ rest acts ps. wasks set W marks go raise (as_member n) n args z.fiber (here rest acts) ps) (asks_next set at_call args n)
     asks_so None args = λ acts more. refl
     asks_so (Some (native.OfFiber member)) args = member_so member args z.fiber
     asks_so (Some n) args = native_so n args refl
@@ -379,14 +393,14 @@ module _ (set : Setting) (W : Program) (marks : List (List Bool)) (t : ℕ) wher
     now rest acts = world_of t x rest acts
 
     abbrev By : Effect → Type 0
-    By e = Is (λ rest acts ps. weffect set W marks counts e top.method below x.fiber (now rest acts) ps) (next_by set W t counts x (move_by W e top below))
+    By e = Is (λ rest acts ps. weffect set W marks counts e top below x.fiber (now rest acts) ps) (next_by set W t counts x (move_by W e top below))
 
     goes : (c : Bool) (p : ℕ) (l s : List Value) (h : Objects) → Is (λ rest acts ps. WRun top.method p l s below x.fiber (tick set W marks c (with_heap (now rest acts) h)) ps) (Goes (ticked c (stood x (goes_on top p l s ∷ below) h)))
     goes true p l s h rest acts ps = refl
     goes false p l s h rest acts ps = refl
 
     makes : (c : Bool) (o : Object) (p : ℕ) (l s : List Value) (h : Objects) →
-        Is (λ rest acts ps. weffect set W marks c (effect.Makes o p l s h) top.method below x.fiber (now rest acts) ps) (next_by set W t c x (move.Makes o (goes_on top p l s ∷ below) h))
+        Is (λ rest acts ps. weffect set W marks c (effect.Makes o p l s h) top below x.fiber (now rest acts) ps) (next_by set W t c x (move.Makes o (goes_on top p l s ∷ below) h))
     makes true o p l s h rest acts ps = refl
     makes false o p l s h rest acts ps = refl
 
@@ -457,6 +471,15 @@ module _ (set : Setting) (W : Program) (marks : List (List Bool)) (t : ℕ) wher
     returns v h [] = finishes h x.kept
     returns v h (caller ∷ fs) = back counts v caller fs h
 
+    -- nothing catches
+    raises : (c : Bool) (why : EndCause) → Is (λ rest acts ps. weffect set W marks c (effect.Raises why) top below x.fiber (now rest acts) ps) (Ends why)
+    raises true why acts more = (counted (now [] acts), wraises_over set W marks none x.fiber (0 ∷ more) (counted (now [] acts)) why x.next top below (raised_class W (index_at W top) why), refl)
+    raises false why acts more = (now [] acts, wraises_over set W marks none x.fiber (0 ∷ more) (now [] acts) why x.next top below (raised_class W (index_at W top) why), refl)
+
+    throws : (c : Bool) (n : ℕ) (class : ClassId) (why : EndCause) → Is (λ rest acts ps. weffect set W marks c (effect.Throws n class why) top below x.fiber (now rest acts) ps) (Ends why)
+    throws true n class why acts more = (counted (now [] acts), wthrows_over set W marks none x.fiber (0 ∷ more) (counted (now [] acts)) why (counted (now [] acts)) class (Ref n) top below, refl)
+    throws false n class why acts more = (now [] acts, wthrows_over set W marks none x.fiber (0 ∷ more) (now [] acts) why (now [] acts) class (Ref n) top below, refl)
+
     by_effect : (e : Effect) → By e
     by_effect (effect.Goes p l s h) = goes counts p l s h
     by_effect (effect.Makes o p l s h) = makes counts o p l s h
@@ -464,8 +487,8 @@ module _ (set : Setting) (W : Program) (marks : List (List Bool)) (t : ℕ) wher
     by_effect (effect.Calls m args p l s h) = calls m args p l s h
     by_effect (effect.Asks m args p l s h) = asks_so (record x { heap = h }) top.method p l s below (native_of W m) args
     by_effect (effect.Returns v h) = returns v h below
-    by_effect (effect.Raises why) = ends_at x why
-    by_effect (effect.Throws object class why) = ends_at x why
+    by_effect (effect.Raises why) = raises counts why
+    by_effect (effect.Throws n c why) = throws counts n c why
     by_effect (effect.Ends why) = ends_at x why
     by_effect effect.Stuck = λ acts more. refl
 
@@ -477,14 +500,14 @@ module _ (set : Setting) (W : Program) (marks : List (List Bool)) (t : ℕ) wher
     resumes (Some m) = λ rest acts ps. refl
 
     found : (top : Activation) (below : List Activation) (o : Option (Instr × ℕ × Bool)) → wfetch set W marks top.method top.place ≡ o →
-        Is (λ rest acts ps. wfound set W marks o top.method top.locals top.stack below x.fiber (world_of t x rest acts) ps) (found_next set W t x top below o)
+        Is (λ rest acts ps. wfound set W marks o top below x.fiber (world_of t x rest acts) ps) (found_next set W t x top below o)
     unfolding moves
     found top below None e = λ acts more. refl
     found top below (Some (i, nx, mk)) e =
         let counts : Bool = mk && not (is_rewinding x.fiber) in
         let same : does W (own_of W top.method) i nx top.locals top.stack x.heap ≡ effect_of W top x.heap = effect_at W (marks_of marks top.method) top x.heap (method_at W top.method) i nx mk e in
-        spent counts x (λ rest acts ps. weffect set W marks counts (does W (own_of W top.method) i nx top.locals top.stack x.heap) top.method below x.fiber (world_of t x rest acts) ps) (next_by set W t counts x (moves W top below x.heap))
-        (subst (λ (d : Effect). Is (λ rest acts ps. weffect set W marks counts (does W (own_of W top.method) i nx top.locals top.stack x.heap) top.method below x.fiber (world_of t x rest acts) ps) (next_by set W t counts x (move_by W d top below))) same
+        spent counts x (λ rest acts ps. weffect set W marks counts (does W (own_of W top.method) i nx top.locals top.stack x.heap) top below x.fiber (world_of t x rest acts) ps) (next_by set W t counts x (moves W top below x.heap))
+        (subst (λ (d : Effect). Is (λ rest acts ps. weffect set W marks counts (does W (own_of W top.method) i nx top.locals top.stack x.heap) top below x.fiber (world_of t x rest acts) ps) (next_by set W t counts x (move_by W d top below))) same
         (by_effect x top below counts (does W (own_of W top.method) i nx top.locals top.stack x.heap)))
 
     by_frames : (fs : List Activation) → Is (λ rest acts ps. wstep set W marks (state_in fs x.fiber (world_of t x rest acts) ps)) (next_in set W marks t x fs)
@@ -493,4 +516,4 @@ module _ (set : Setting) (W : Program) (marks : List (List Bool)) (t : ℕ) wher
 
 pub machine_follows : MachineFollows
 unfolding next_of
-machine_follows set W marks t x = by_frames set W marks t x x.frames
+machine_follows set W marks none t x = by_frames set W marks none t x x.frames

@@ -11,7 +11,6 @@ use Rattle.kilim_program.specs.Names.{method_at}
 use Rattle.kilim_program.specs.Program.{Program}
 use Rattle.kilim_isolation_laws.proofs.kept.Serving.{accepted_is_kept}
 use Rattle.kilim_run_state.specs.declared.cause.EndCause.TheVariants as cause
-use Rattle.kilim_run_machine.specs.Raising.{NoTables}
 use Rattle.kilim_run_machine.specs.Does.{does}
 use Rattle.kilim_run_machine.specs.Effect.{Asks}
 use Rattle.kilim_run_state.specs.Machine.{Objects}
@@ -43,7 +42,7 @@ use Rattle.kilim_fiber_spec.specs.Acts.{Lost, World, asks, ending, spending, wit
 use Rattle.kilim_fiber_spec.specs.Form.{Facts, Members}
 use Rattle.kilim_fiber_spec.specs.Links.{Forms, code}
 use Rattle.kilim_fiber_spec.specs.Serves.{From, Known, Rows}
-use Rattle.kilim_fiber_spec.specs.Thread.{Frame, Run, Stop, Thread, fetch, own_of, push, self_of, started, started_in, step, steps}
+use Rattle.kilim_fiber_spec.specs.Thread.{At, Frame, Run, Stop, Thread, fetch, own_of, push, raised_behind, self_of, started, started_in, step, steps}
 use Rattle.kilim_fiber_laws.proofs.stands.serves.Whole.{whole}
 use Rattle.kilim_fiber_laws.proofs.stands.shares.Called.{each}
 use Rattle.kilim_fiber_laws.proofs.stands.shares.Fibers.{fiber_is}
@@ -55,20 +54,20 @@ abbrev is_stopped : Thread → Bool
 is_stopped (Run m p l s x b w) = false
 is_stopped (Stop o) = true
 
-pub all_of_course : (set : Setting) → NoTables set.program → (n : ℕ) (t : Thread) → IsOfCourse set t → IsOfCourse set (steps set n t)
-all_of_course set none zero t is = is
-all_of_course set none (suc n) t is = all_of_course set none n (step set t) (goes_on set none t is)
+pub all_of_course : (set : Setting) (n : ℕ) (t : Thread) → IsOfCourse set t → IsOfCourse set (steps set n t)
+all_of_course set zero t is = is
+all_of_course set (suc n) t is = all_of_course set n (step set t) (goes_on set t is)
 
 module _ (set : Setting) (run : IsRunOfAccepted set) where
   pub pauses : KeepsPauses set.program
   pauses = accepted_keeps (typed set.program) run.keeps (record { typed = run.well; frames = refl }) run.accepted
 
   at_all : (first t : Thread) → IsOfCourse set first → From set first t → IsOfCourse set t
-  at_all first t is f = subst (λ (z : Thread). IsOfCourse set z) f.1 (all_of_course set run.keeps.handlers f.0 first is)
+  at_all first t is f = subst (λ (z : Thread). IsOfCourse set z) f.1 (all_of_course set f.0 first is)
 
   -- a built-in method gets arguments that it takes
   answered : (m : MethodId) (p to q : ℕ) (i : Instr) (l s l2 s2 args : List Value) (x : Value) (b : List Frame) (w : World) (heap : Objects) (c : MethodId) → IsOfCourse set (Run m p l s x b w) → fetch set.program m p ≡ Some (i, to)
-      → does set.program (own_of set.program m) i to l s w.heap ≡ Asks c args q l2 s2 heap → asks set (with_heap w heap) Stop (λ after v. Run m q l2 (push v s2) x b after) (native_of set.program c) args ≢ Stop Lost
+      → does set.program (own_of set.program m) i to l s w.heap ≡ Asks c args q l2 s2 heap → asks set (with_heap w heap) Stop (λ after v. Run m q l2 (push v s2) x b after) (raised_behind set (At m q l2 s2 x ∷ b) (with_heap w heap)) (native_of set.program c) args ≢ Stop Lost
   answered m p to q i l s l2 s2 args x b w heap c here f d =
       let stands = threads_stand set run w.task here.0 here.1 (lone_at m p l s b w) here.2 here.3 in
       natives_answer set (typing_at set.program) (λ id at k. true) (is_verified set run.keeps run.form run.well run.accepted run.main run.begins) stands.of m p to q i l s l2 s2 args x b w heap c stands.fits.fits.frames.0 stands.fits.fits.heap

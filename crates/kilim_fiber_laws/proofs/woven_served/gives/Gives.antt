@@ -18,7 +18,10 @@ use Rattle.kilim_run_state.specs.declared.value.Object.{Object}
 use Rattle.kilim_run_state.specs.declared.value.Token.{Token}
 use Rattle.kilim_run_machine.specs.Does.{does}
 use Rattle.kilim_run_machine.specs.Effect.{Asks, Calls, Effect, Ends, Goes, Makes, Opens, Raises, Throws, Returns, Stuck}
-use Rattle.kilim_run_state.specs.Machine.{Objects}
+use Rattle.kilim_run_state.specs.Machine.{Activation, Objects}
+use Rattle.kilim_run_state.specs.Objects.{new_object}
+use Rattle.kilim_run_machine.specs.Raising.{index_at, other_index, raised_class}
+use Rattle.kilim_fiber_spec.proofs.lone.Left.{raises_has, thrown_has}
 use Rattle.kilim_program.specs.Members.{execute_of}
 use Rattle.kilim_run_machine.specs.Moves.{entered, frame_limit, move_by, moves}
 use Rattle.kilim_run_machine.specs.Natives.{Native, native_of}
@@ -39,11 +42,11 @@ use Rattle.kilim_fiber_laws.proofs.woven_served.ready.Whole.{course, tasks_serve
 use Rattle.kilim_fiber_laws.proofs.receivers.Heaps.{KeepsHeap, keeps_heap}
 use Rattle.kilim_fiber_laws.proofs.receivers.Held.{effect_is}
 use Rattle.kilim_fiber_laws.specs.receivers.Law.{IsBegun}
-use Rattle.kilim_fiber_spec.specs.Acts.{Action, Over, Wants, World, acting, asks, counted, ending, gives_arg, last, native_does, prints, probe_by, put_by, puts, puts_value, receives, start_by, starts, take_by, with_heap, put_wait_by, put_waits, waits_value, bounds}
+use Rattle.kilim_fiber_spec.specs.Acts.{Action, Over, Wants, World, acting, asks, counted, ending, gives_arg, last, native_does, prints, probe_by, put_by, puts, puts_value, receives, start_by, starts, take_by, with_heap, put_wait_by, put_waits, waits_value, bounds, with_new}
 use Rattle.kilim_fiber_spec.specs.Acts as action
 use Rattle.kilim_fiber_spec.specs.Fibers.{frame}
 use Rattle.kilim_fiber_spec.specs.Links.{Both, Fw, u_stack, unwoven}
-use Rattle.kilim_fiber_spec.specs.Thread.{At, Frame, Run, Stop, Thread, begins, begins_in, effect_does, fetch, finishes, found_does, own_of, push, returns, self_of, step, steps}
+use Rattle.kilim_fiber_spec.specs.Thread.{At, Frame, Run, Stop, Thread, begins, begins_in, effect_does, fetch, finishes, found_does, own_of, push, returns, self_of, step, steps, left_at, left_behind, raised_behind, stands_at}
 
 module _ (set : Setting) where
   abbrev pub Hands : Thread → Type 0
@@ -65,9 +68,21 @@ module _ (set : Setting) where
       by [] = hands
       by (d ∷ rest) = h d rest
 
+  -- ---- what is raised goes on at a handler, or ends the task
+
+  stands : (f : Frame) (fs : List Frame) (w : World) → Hands (stands_at set f fs w)
+  stands (At m p l s x) fs w = tt
+
+  raised_hands : (b : List Frame) (w : World) (why : EndCause) → Hands (raised_behind set b w why)
+  raised_hands b w why =
+      raises_has set Hands (counted w) why (ended (counted w) why) set.program (λ c. left_behind set.program c (Ref w.next) b) (raised_class set.program other_index why) (λ c f fs e. stands f fs (with_new (counted w) (new_object set.program c)))
+
   -- ---- what a built-in method does
 
   module _ (w : World) (m : MethodId) (q : ℕ) (l s : List Value) (x : Value) (b : List Frame) where
+    raised_so : (why : EndCause) → Hands (raised_behind set (At m q l s x ∷ b) w why)
+    raised_so why = raised_hands (At m q l s x ∷ b) w why
+
     put_so : (box : BoxName) (shape : List Token) (n : ℕ) (act : Act) (rest : List Deed) → Hands (put_by set w Stop (λ after v. Run m q l (push v s) x b after) box shape n act rest)
     put_so box shape n (Put c k z) rest = tt
     put_so box shape n (End c) [] = tt
@@ -112,15 +127,15 @@ module _ (set : Setting) where
         by [] = record { shaped = e; given = tree }
         by (d ∷ rest) = put_wait_so box shape n d.act rest
 
-    wait_so : (box : BoxName) (v : Value) → ((kind : Root) (n : ℕ) → given (Some native.PutWait) (Box box ∷ v ∷ []) ≡ Some (kind, n) → IsGivenTree set.program kind w.heap n) → Hands (waits_value set w Stop (λ after v. Run m q l (push v s) x b after) box v)
-    wait_so box Null g = ended w cause.Null
+    wait_so : (box : BoxName) (v : Value) → ((kind : Root) (n : ℕ) → given (Some native.PutWait) (Box box ∷ v ∷ []) ≡ Some (kind, n) → IsGivenTree set.program kind w.heap n) → Hands (waits_value set w Stop (λ after v. Run m q l (push v s) x b after) (raised_behind set (At m q l s x ∷ b) w) box v)
+    wait_so box Null g = raised_so cause.Null
     wait_so box (Ref n) g = put_waits_so box n (g OfMessage n refl) (shape_of set.program w.heap n) refl
     wait_so box v g = tt
 
-    bound_so : (box : BoxName) (i : ℤ) → Hands (bounds set w Stop (λ after v. Run m q l (push v s) x b after) box i)
+    bound_so : (box : BoxName) (i : ℤ) → Hands (bounds set w Stop (λ after v. Run m q l (push v s) x b after) (raised_behind set (At m q l s x ∷ b) w) box i)
     bound_so box (pos (suc n)) = acted w (action.Bounds box (suc n)) tt _ (λ d rest. tt)
-    bound_so box (pos zero) = ended w cause.Size
-    bound_so box (negsuc n) = ended w cause.Size
+    bound_so box (pos zero) = raised_so cause.Size
+    bound_so box (negsuc n) = raised_so cause.Size
 
     starts_so : (n : ℕ) → IsGivenTree set.program OfTask w.heap n → (o : Option (List Token)) → shape_of set.program w.heap n ≡ o → Hands (starts set w Stop (λ after v. Run m q l (push v s) x b after) n o)
     starts_so n tree None e = ended w cause.Large
@@ -130,8 +145,8 @@ module _ (set : Setting) where
         by [] = record { shaped = e; given = tree }
         by (d ∷ rest) = start_so shape n d.act rest
 
-    message_so : (box : BoxName) (v : Value) → ((kind : Root) (n : ℕ) → given (Some native.Put) (Box box ∷ v ∷ []) ≡ Some (kind, n) → IsGivenTree set.program kind w.heap n) → Hands (puts_value set w Stop (λ after v. Run m q l (push v s) x b after) box v)
-    message_so box Null g = ended w cause.Null
+    message_so : (box : BoxName) (v : Value) → ((kind : Root) (n : ℕ) → given (Some native.Put) (Box box ∷ v ∷ []) ≡ Some (kind, n) → IsGivenTree set.program kind w.heap n) → Hands (puts_value set w Stop (λ after v. Run m q l (push v s) x b after) (raised_behind set (At m q l s x ∷ b) w) box v)
+    message_so box Null g = raised_so cause.Null
     message_so box (Ref n) g = puts_so box n (g OfMessage n refl) (shape_of set.program w.heap n) refl
     message_so box v g = tt
 
@@ -147,11 +162,11 @@ module _ (set : Setting) where
     prints_so None = tt
     prints_so (Some t) = acted w (action.Prints t) tt _ (λ d rest. tt)
 
-    arg_so : (o : Option ℤ) → Hands (gives_arg set w Stop (λ after v. Run m q l (push v s) x b after) o)
-    arg_so None = ended w cause.Index
+    arg_so : (o : Option ℤ) → Hands (gives_arg set w Stop (λ after v. Run m q l (push v s) x b after) (raised_behind set (At m q l s x ∷ b) w) o)
+    arg_so None = raised_so cause.Index
     arg_so (Some n) = tt
 
-    does_so : (k : Native) (args : List Value) → ((kind : Root) (n : ℕ) → given (Some k) args ≡ Some (kind, n) → IsGivenTree set.program kind w.heap n) → Hands (native_does set w Stop (λ after v. Run m q l (push v s) x b after) k args)
+    does_so : (k : Native) (args : List Value) → ((kind : Root) (n : ℕ) → given (Some k) args ≡ Some (kind, n) → IsGivenTree set.program kind w.heap n) → Hands (native_does set w Stop (λ after v. Run m q l (push v s) x b after) (raised_behind set (At m q l s x ∷ b) w) k args)
     does_so native.Execute (Ref n ∷ []) g = tt
     does_so native.Start (Ref n ∷ []) g = starts_so n (g OfTask n refl) (shape_of set.program w.heap n) refl
     does_so native.Put (Box box ∷ message ∷ []) g = message_so box message g
@@ -165,7 +180,7 @@ module _ (set : Setting) where
     does_so native.Arg (Int i ∷ []) g = arg_so (arg_at set.limits.args i)
     does_so n args g = tt
 
-    asks_so : (o : Option Native) (args : List Value) → ((kind : Root) (n : ℕ) → given o args ≡ Some (kind, n) → IsGivenTree set.program kind w.heap n) → Hands (asks set w Stop (λ after v. Run m q l (push v s) x b after) o args)
+    asks_so : (o : Option Native) (args : List Value) → ((kind : Root) (n : ℕ) → given o args ≡ Some (kind, n) → IsGivenTree set.program kind w.heap n) → Hands (asks set w Stop (λ after v. Run m q l (push v s) x b after) (raised_behind set (At m q l s x ∷ b) w) o args)
     asks_so None args g = tt
     asks_so (Some n) args g = does_so n args g
 
@@ -199,25 +214,26 @@ module _ (set : Setting) where
   Gives w (Asks c args q l s h) = ((kind : Root) (n : ℕ) → given (native_of set.program c) args ≡ Some (kind, n) → IsGivenTree set.program kind h n)
   Gives w e = Unit {0}
 
-  effect_hands : (e : Effect) (m : MethodId) (x : Value) (b : List Frame) (w : World) → Gives w e → Hands (effect_does set e m x b w)
-  effect_hands (Goes q l s h) m x b w g = tt
-  effect_hands (Makes o q l s h) m x b w g = tt
-  effect_hands (Opens q l s h) m x b w g = by (nat_lt w.boxes box_limit)
+  effect_hands : (e : Effect) (top : Activation) (x : Value) (b : List Frame) (w : World) → Gives w e → Hands (effect_does set e top x b w)
+  effect_hands (Goes q l s h) top x b w g = tt
+  effect_hands (Makes o q l s h) top x b w g = tt
+  effect_hands (Opens q l s h) top x b w g = by (nat_lt w.boxes box_limit)
     where
-      by : (z : Bool) → Hands (cond z (Run m q l (Box (record { task = w.task; number = w.boxes }) ∷ s) x b (record (counted (with_heap w h)) { boxes = w.boxes + 1 })) (ending set (with_heap w h) Stop cause.Boxes))
+      by : (z : Bool) → Hands (cond z (Run top.method q l (Box (record { task = w.task; number = w.boxes }) ∷ s) x b (record (counted (with_heap w h)) { boxes = w.boxes + 1 })) (ending set (with_heap w h) Stop cause.Boxes))
       by true = tt
       by false = ended (with_heap w h) cause.Boxes
-  effect_hands (Calls c args q l s h) m x b w g = by (nat_lt (length (At m q l s x ∷ b)) frame_limit)
+  effect_hands (Calls c args q l s h) top x b w g = by (nat_lt (length (At top.method q l s x ∷ b)) frame_limit)
     where
-      by : (z : Bool) → Hands (cond z (Run c 0 (entered set.program c args).locals [] (self_of set.program c args) (At m q l s x ∷ b) (counted (with_heap w h))) (ending set (with_heap w h) Stop cause.Depth))
+      by : (z : Bool) → Hands (cond z (Run c 0 (entered set.program c args).locals [] (self_of set.program c args) (At top.method q l s x ∷ b) (counted (with_heap w h))) (ending set (with_heap w h) Stop cause.Depth))
       by true = tt
       by false = ended (with_heap w h) cause.Depth
-  effect_hands (Asks c args q l s h) m x b w g = asks_so (with_heap w h) m q l s x b (native_of set.program c) args g
-  effect_hands (Returns v h) m x b w g = returned v b (with_heap w h)
-  effect_hands (Raises why) m x b w g = ended w why
-  effect_hands (Throws object class why) m x b w g = ended w why
-  effect_hands (Ends why) m x b w g = ended w why
-  effect_hands Stuck m x b w g = tt
+  effect_hands (Asks c args q l s h) top x b w g = asks_so (with_heap w h) top.method q l s x b (native_of set.program c) args g
+  effect_hands (Returns v h) top x b w g = returned v b (with_heap w h)
+  effect_hands (Raises why) top x b w g =
+      raises_has set Hands (counted w) why (ended (counted w) why) set.program (λ c. left_at set.program c (Ref w.next) top x b) (raised_class set.program (index_at set.program top) why) (λ c f fs e. stands f fs (with_new (counted w) (new_object set.program c)))
+  effect_hands (Throws n c why) top x b w g = thrown_has set Hands (counted w) why (ended (counted w) why) (counted w) (left_at set.program c (Ref n) top x b) (λ f fs e. stands f fs (counted w))
+  effect_hands (Ends why) top x b w g = ended w why
+  effect_hands Stuck top x b w g = tt
 
 module _ (set : Setting) (run : IsRunOfAccepted set) where
   kept : Kept (record { top = λ id at k. false; below = λ id at k. false }) set
@@ -246,19 +262,19 @@ module _ (set : Setting) (run : IsRunOfAccepted set) where
   step_hands (Stop o) of_course hands = hands
   step_hands (Run m p l s x b w) of_course hands = by (nat_le set.limits.steps w.done)
     where
-      found : (o : Option (Instr × ℕ)) → fetch set.program m p ≡ o → Hands set (found_does set o m l s x b w)
+      found : (o : Option (Instr × ℕ)) → fetch set.program m p ≡ o → Hands set (found_does set o (frame m p l s) x b w)
       found None f = tt
       found (Some at) f =
-          effect_hands set (does set.program (own_of set.program m) at.0 at.1 l s w.heap) m x b w
+          effect_hands set (does set.program (own_of set.program m) at.0 at.1 l s w.heap) (frame m p l s) x b w
           (gives_of m p l s x b w of_course at.0 at.1 f (does set.program (own_of set.program m) at.0 at.1 l s w.heap) (moved m p l s x b w of_course at.0 at.1 f) (keeps_heap set.program (own_of set.program m) l at.1 s w.heap at.0))
 
-      by : (z : Bool) → Hands set (cond z (ending set w Stop cause.Spent) (found_does set (fetch set.program m p) m l s x b w))
+      by : (z : Bool) → Hands set (cond z (ending set w Stop cause.Spent) (found_does set (fetch set.program m p) (frame m p l s) x b w))
       by true = ended set w cause.Spent
       by false = found (fetch set.program m p) refl
 
   all_hand : (n : ℕ) (t : Thread) → IsOfCourse set t → Hands set t → Hands set (steps set n t)
   all_hand zero t of_course hands = hands
-  all_hand (suc n) t of_course hands = all_hand n (step set t) (goes_on set run.keeps.handlers t of_course) (step_hands t of_course hands)
+  all_hand (suc n) t of_course hands = all_hand n (step set t) (goes_on set t of_course) (step_hands t of_course hands)
 
 pub threads_hand : (set : Setting) → IsRunOfAccepted set → (first : Thread) → IsBegun set first → (n : ℕ) (o : Over) → steps set n first ≡ Stop o → HandsOut set o
 threads_hand set run (Run m p l s x b w) begun n o e = subst (λ (z : Thread). Hands set z) e (all_hand set run n (Run m p l s x b w) (course set run (Run m p l s x b w) begun) tt)
@@ -271,7 +287,7 @@ woven_gives set run short lives is =
       served.1,
       λ first k t fine from j o e.
           let ends = ((served.1.serves first k).ends t fine from o).1 (j, e) in
-          handed t ends.0 o (subst (λ (z : Thread). IsOfCourse set z) from.1 (all_of_course set run.keeps.handlers from.0 first (course set run first k))) ends.1,
+          handed t ends.0 o (subst (λ (z : Thread). IsOfCourse set z) from.1 (all_of_course set from.0 first (course set run first k))) ends.1,
       λ first begun n o e. threads_hand set run first begun n o e,
     )
   where

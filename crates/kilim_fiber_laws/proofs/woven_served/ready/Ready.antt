@@ -23,6 +23,7 @@ use Rattle.kilim_run_machine.specs.Effect.{Asks, Effect}
 use Rattle.kilim_run_state.specs.Machine.{Objects}
 use Rattle.kilim_run_state.specs.Shapes.{shape_of}
 use Rattle.kilim_run_state.specs.Trees.{tree_names, without}
+use Rattle.kilim_run_state.specs.declared.cause.EndCause.{EndCause}
 use Rattle.kilim_run_state.specs.declared.cause.EndCause.TheVariants as cause
 use Rattle.kilim_run_state.specs.declared.value.Token.{Token}
 use Rattle.kilim_run_journal.specs.declared.entry.Act.TheVariants as act
@@ -67,7 +68,7 @@ use Rattle.kilim_fiber_spec.specs.Form.{Facts}
 use Rattle.kilim_fiber_spec.specs.Links.{AllStand, AreReady, Fit, Forms, Leaf, Link, Lk, code, u_frames}
 use Rattle.kilim_fiber_spec.specs.Rows.{Receives}
 use Rattle.kilim_fiber_spec.specs.Serves.{From, MayPause, SelvesAreThere, is_leaf, leaf_receiver, resting_heap}
-use Rattle.kilim_fiber_spec.specs.Thread.{Run, Stop, Thread, code_in, effect_does, fetch, found_does, own_of, push, step, steps}
+use Rattle.kilim_fiber_spec.specs.Thread.{At, Run, Stop, Thread, code_in, effect_does, fetch, found_does, own_of, push, raised_behind, step, steps}
 use Rattle.kilim_fiber_laws.specs.stands.Law.{IsFormOf}
 
 -- the task's thread begins; one that is over has nothing lost
@@ -85,8 +86,8 @@ live_before p i callee own q to j hp f live = absurd (none-some callee hp)
 
 -- ---- what `get` and `yield` take, where the thread isn't lost
 
-module _ (set : Setting) (w : World) (go : World → Option Value → Thread) where
-  box_args : (args : List Value) → native_does set w Stop go native.Get args ≢ Stop Lost → (b : BoxName) × (args ≡ Box b ∷ [])
+module _ (set : Setting) (w : World) (go : World → Option Value → Thread) (raise : EndCause → Thread) where
+  box_args : (args : List Value) → native_does set w Stop go raise native.Get args ≢ Stop Lost → (b : BoxName) × (args ≡ Box b ∷ [])
   box_args (Box b ∷ []) n = (b, refl)
   box_args [] n = absurd (n refl)
   box_args (Box b ∷ v ∷ vs) n = absurd (n refl)
@@ -97,7 +98,7 @@ module _ (set : Setting) (w : World) (go : World → Option Value → Thread) wh
   box_args (Text units ∷ vs) n = absurd (n refl)
   box_args (Fiber ∷ vs) n = absurd (n refl)
 
-  no_args : (args : List Value) → native_does set w Stop go native.Yield args ≢ Stop Lost → args ≡ []
+  no_args : (args : List Value) → native_does set w Stop go raise native.Yield args ≢ Stop Lost → args ≡ []
   no_args [] n = refl
   no_args (v ∷ vs) n = absurd (n refl)
 
@@ -127,7 +128,7 @@ module _ (set : Setting) (run : IsRunOfAccepted set) (pauses : KeepsPauses set.p
   step_so : (t : Thread) → StandsSo t → StandsSo (step set t)
   step_so t w =
       let next = step_well set run w.of t w.well in
-      record { course = goes_on set run.keeps.handlers t w.course; of = next.0; well = next.2; called = step_called set run w.of next.0 next.1 t w.well w.called; held = step_held set run w.of t w.well w.held (next.0, next.2) }
+      record { course = goes_on set t w.course; of = next.0; well = next.2; called = step_called set run w.of next.0 next.1 t w.well w.called; held = step_held set run w.of t w.well w.held (next.0, next.2) }
 
   steps_so : (n : ℕ) (t : Thread) → StandsSo t → StandsSo (steps set n t)
   steps_so zero t w = w
@@ -186,20 +187,20 @@ module _ (set : Setting) (run : IsRunOfAccepted set) (pauses : KeepsPauses set.p
     inside : AreThere w.heap s
     inside = stack_of w.heap (live_in set run pauses W marks form is_form agree facts executes_same) (frame m p l s) (lone_frames (u_frames links)) there
 
-    unlost : (leaf : Native) → native_of set.program c ≡ Some leaf → native_does set (with_heap w w.heap) Stop (λ after r. Run m to l (push r s2) x (u_frames links) after) leaf args ≢ Stop Lost
+    unlost : (leaf : Native) → native_of set.program c ≡ Some leaf → native_does set (with_heap w w.heap) Stop (λ after r. Run m to l (push r s2) x (u_frames links) after) (raised_behind set (At m to l s2 x ∷ u_frames links) (with_heap w w.heap)) leaf args ≢ Stop Lost
     unlost leaf named =
-        subst (λ (o : Option Native). asks set (with_heap w w.heap) Stop (λ after r. Run m to l (push r s2) x (u_frames links) after) o args ≢ Stop Lost) named
+        subst (λ (o : Option Native). asks set (with_heap w w.heap) Stop (λ after r. Run m to l (push r s2) x (u_frames links) after) (raised_behind set (At m to l s2 x ∷ u_frames links) (with_heap w w.heap)) o args ≢ Stop Lost) named
         (natives_answer set (typing_at set.program) (λ id at k. true) (is_verified set run.keeps run.form run.well run.accepted run.main run.begins) of m p to to i l s l s2 args x (u_frames links) w w.heap c typed.fits.frames.0 typed.fits.heap inside f d)
 
     get_fits : native_of set.program c ≡ Some native.Get → Fit set W marks form w.heap (Leaf native.Get) (leaf_receiver native.Get args) (Lk m p to i callee s2 l wl x old was)
     get_fits named =
-        let b = box_args set (with_heap w w.heap) (λ after r. Run m to l (push r s2) x (u_frames links) after) args (unlost native.Get named) in
+        let b = box_args set (with_heap w w.heap) (λ after r. Run m to l (push r s2) x (u_frames links) after) (raised_behind set (At m to l s2 x ∷ u_frames links) (with_heap w w.heap)) args (unlost native.Get named) in
         fit_get set run pauses sound W marks form is_form agree of w.heap typed.fits.heap m typed.fits.frames.0.method typed.fits.frames.0.there p to l s typed.fits.frames.0.stack at.0 callee c args s2 i f hp receives (λ k. typed.fits.frames.0.locals.slots k refl) locals wl x old was self_here inside d named at.1 b.0 b.1
 
     yield_fits : native_of set.program c ≡ Some native.Yield → Fit set W marks form w.heap (Leaf native.Yield) (leaf_receiver native.Yield args) (Lk m p to i callee s2 l wl x old was)
     yield_fits named =
         fit_yield set run pauses sound W marks form is_form agree of w.heap typed.fits.heap m typed.fits.frames.0.method typed.fits.frames.0.there p to l s typed.fits.frames.0.stack at.0 callee c args s2 i f hp receives (λ k. typed.fits.frames.0.locals.slots k refl) locals wl x old was self_here inside d named
-        (no_args set (with_heap w w.heap) (λ after r. Run m to l (push r s2) x (u_frames links) after) args (unlost native.Yield named))
+        (no_args set (with_heap w w.heap) (λ after r. Run m to l (push r s2) x (u_frames links) after) (raised_behind set (At m to l s2 x ∷ u_frames links) (with_heap w w.heap)) args (unlost native.Yield named))
 
     -- ---- A put that waits: were it made now, its tree would be gone, and what is left in the frames would be there. So it is there without the tree.
 
@@ -216,11 +217,11 @@ module _ (set : Setting) (run : IsRunOfAccepted set) (pauses : KeepsPauses set.p
 
       goes : step set (Run m p l s x (u_frames links) told) ≡ Run m to l s2 x (u_frames links) put
       goes =
-          ap (λ (o : Option (Instr × ℕ)). spending set told Stop (found_does set o m l s x (u_frames links) told)) f
-          ∙ (ap (λ (z : Bool). cond z (ending set told Stop cause.Spent) (effect_does set (does set.program (own_of set.program m) i to l s w.heap) m x (u_frames links) told)) left
-          ∙ (ap (λ (e : Effect). effect_does set e m x (u_frames links) told) d
-          ∙ (ap (λ (o : Option Native). asks set (with_heap told w.heap) Stop (λ after r. Run m to l (push r s2) x (u_frames links) after) o args) named
-          ∙ (ap (λ (xs : List Value). native_does set (with_heap told w.heap) Stop (λ after r. Run m to l (push r s2) x (u_frames links) after) native.PutWait xs) are
+          ap (λ (o : Option (Instr × ℕ)). spending set told Stop (found_does set o (frame m p l s) x (u_frames links) told)) f
+          ∙ (ap (λ (z : Bool). cond z (ending set told Stop cause.Spent) (effect_does set (does set.program (own_of set.program m) i to l s w.heap) (frame m p l s) x (u_frames links) told)) left
+          ∙ (ap (λ (e : Effect). effect_does set e (frame m p l s) x (u_frames links) told) d
+          ∙ (ap (λ (o : Option Native). asks set (with_heap told w.heap) Stop (λ after r. Run m to l (push r s2) x (u_frames links) after) (raised_behind set (At m to l s2 x ∷ u_frames links) (with_heap told w.heap)) o args) named
+          ∙ (ap (λ (xs : List Value). native_does set (with_heap told w.heap) Stop (λ after r. Run m to l (push r s2) x (u_frames links) after) (raised_behind set (At m to l s2 x ∷ u_frames links) (with_heap told w.heap)) native.PutWait xs) are
           ∙ ap (λ (o : Option (List Token)). put_waits set (with_heap told w.heap) Stop (λ after r. Run m to l (push r s2) x (u_frames links) after) box n o) has))))
 
       behind : StandsSo (Run m to l s2 x (u_frames links) put)

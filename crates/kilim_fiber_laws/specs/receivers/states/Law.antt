@@ -1,14 +1,14 @@
 -- Where the deeds of a course lead the thread beside the woven machine: just where they lead the thread of the course.
-use Rattle.std.specs.Prelude.{◌≡◌, ◌↔◌, ◌⊎◌, ℕ, true, List, [], ◌∷◌, ◌++◌, Option, Some, None}
+use Rattle.std.specs.Prelude.{◌≡◌, ◌↔◌, ◌⊎◌, ℕ, Bool, true, false, if◌then◌else◌, List, [], ◌∷◌, ◌++◌, Option, Some, None}
 use Rattle.std.specs.FinMap.{get}
 use Rattle.kilim_program.specs.declared.names.MethodId.{MethodId}
 use Rattle.kilim_program.specs.declared.value.Value.TheVariants.{Ref}
 use Rattle.kilim_program.specs.Names.{◌>>=◌}
 use Rattle.kilim_run_journal.specs.declared.entry.Act.{Act}
 use Rattle.kilim_run_journal.specs.declared.entry.Act.TheVariants.{End}
-use Rattle.kilim_run_machine.specs.Raising.{NoTables}
 use Rattle.kilim_run_model.specs.one_heap.Booked.{IsOf}
 use Rattle.kilim_run_state.specs.declared.cause.EndCause.{EndCause}
+use Rattle.kilim_run_state.specs.declared.cause.EndCause.TheVariants as cause
 use Rattle.kilim_run_state.specs.declared.value.Object.{Object}
 use Rattle.kilim_program.specs.Members.{constructor_of, execute_of}
 use Rattle.kilim_run_machine.specs.Moves.{entered}
@@ -20,7 +20,8 @@ use Rattle.kilim_run_model.specs.Lone.{Lone, next_move}
 use Rattle.kilim_run_model.specs.State.{Setting, class_of, is_fit}
 use Rattle.kilim_run_model.specs.State as state
 use Rattle.kilim_fiber_spec.specs.lone.Law.{lone_at, wanted}
-use Rattle.kilim_fiber_spec.specs.Acts.{Action, Finished, Lost, Over, Wants, World}
+use Rattle.kilim_fiber_spec.specs.Acts.{Action, Finished, Lost, Over, Wants, World, counted}
+use Rattle.kilim_fiber_spec.specs.Acts as action
 use Rattle.kilim_fiber_spec.specs.Thread.{Run, Stop, Thread, self_of, started, steps}
 
 -- ---- worlds
@@ -43,6 +44,25 @@ boxes_of (state.Ended cause) = 0
 abbrev pub world_at : ℕ → Lone → List Deed → List Act → World
 world_at k l deeds acts = record { task = k; heap = l.heap; next = l.next; kept = l.kept; deeds = deeds; acts = acts; done = done_of l.thread; boxes = boxes_of l.thread; aside = [] }
 
+-- an end by an exception
+abbrev pub is_exception : EndCause → Bool
+is_exception cause.Null = true
+is_exception cause.Index = true
+is_exception cause.Size = true
+is_exception cause.Cast = true
+is_exception cause.Store = true
+is_exception cause.Zero = true
+is_exception cause.Thrown = true
+is_exception why = false
+
+-- The world at the end, and that before an action: an exception that nothing catches is counted before it ends the task.
+abbrev pub ended_in : EndCause → World → World
+ended_in why w = if is_exception why then counted w else w
+
+abbrev pub wanted_in : Action → World → World
+wanted_in (action.Ends why) w = ended_in why w
+wanted_in wish w = w
+
 -- ---- beginnings
 
 -- the constructor of task 0, on its object
@@ -63,7 +83,7 @@ pub record StandsBefore (set : Setting) (k : ℕ) (c : Course) (a : Action) (w :
   pub of : IsOf set k c here
   pub after : Option Lone
   pub wants : wanted (next_move set k here) ≡ Some (a, after)
-  pub world : w ≡ world_at k here [] (acts_of c.deeds [])
+  pub world : w ≡ wanted_in a (world_at k here [] (acts_of c.deeds []))
 
 -- It has ended by its last deed, before which it stood in that world.
 pub record EndsBy (set : Setting) (k : ℕ) (c : Course) (why : EndCause) (w : World) : Type 0 where
@@ -75,7 +95,7 @@ pub record EndsBy (set : Setting) (k : ℕ) (c : Course) (why : EndCause) (w : W
   pub after : Lone
   pub is_end : final.act ≡ End why
   pub ends : done_by set (next_move set k here) final ≡ Some (record { act = final.act; after = after })
-  pub world : w ≡ world_at k here (final ∷ []) (acts_of before [])
+  pub world : w ≡ ended_in why (world_at k here (final ∷ []) (acts_of before []))
 
 -- ---- on the way
 
@@ -112,6 +132,6 @@ pub record FollowsCourse (set : Setting) (k : ℕ) (c : Course) (Comes : Over �
 -- as such a thread does.
 abbrev pub ThreadFollows : Type 0
 ThreadFollows =
-    (set : Setting) → NoTables set.program → is_fit set ≡ true → (k : ℕ) (c : Course) (l : Lone) → lone_begun set c.beginning ≡ Some l →
+    (set : Setting) → is_fit set ≡ true → (k : ℕ) (c : Course) (l : Lone) → lone_begun set c.beginning ≡ Some l →
     FollowsCourse set k c (λ o. (n : ℕ) × (steps set n (first_thread set c.beginning (world_at k l c.deeds [])) ≡ Stop o))
     × ((n : ℕ) → ThreadAlong set k c (steps set n (first_thread set c.beginning (world_at k l c.deeds []))))

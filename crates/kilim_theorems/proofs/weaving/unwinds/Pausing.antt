@@ -21,6 +21,8 @@ use Rattle.kilim_run_model.specs.Course.{Course}
 use Rattle.kilim_run_model.specs.declared.deed.Deed.{Deed}
 use Rattle.kilim_run_model.specs.Lone.{arg_at, box_limit, printed}
 use Rattle.kilim_run_model.specs.State.{Setting}
+use Rattle.kilim_fiber_laws.proofs.stands.shares.Together.{none_woven}
+use Rattle.kilim_run_machine.specs.Raising.{NoTables}
 use Rattle.kilim_fiber_laws.proofs.woven_kin.history.Steps.{machine_follows}
 use Rattle.kilim_fiber_laws.proofs.Reached.{acts, along, first, next_like, state}
 use Rattle.kilim_fiber_laws.specs.Fibers.{IsFiberOf, IsReached}
@@ -213,8 +215,8 @@ module _ (set : Setting) (W : Program) (marks : List (List Bool)) where
     nothing_by (Ends why) d = let s = d acts [] in stops _ s.1
     nothing_by Stands d = stops _ (d acts [])
 
-  pub nothing_wanted : (t : ℕ) (x : Standing) (acts : List Act) (g : Fib) (w : World) (ps : List ℕ) (n : ℕ) → wsteps set W marks n (wstep set W marks (state_of t x [] acts (0 ∷ []))) ≡ Resting g w ps → WantsNothing (next_of set W marks t x)
-  nothing_wanted t x acts g w ps n rests = nothing_by t (λ rest done pauses. wstep set W marks (state_of t x rest done pauses)) acts g w ps n rests (next_of set W marks t x) (machine_follows set W marks t x)
+  pub nothing_wanted : NoTables W → (t : ℕ) (x : Standing) (acts : List Act) (g : Fib) (w : World) (ps : List ℕ) (n : ℕ) → wsteps set W marks n (wstep set W marks (state_of t x [] acts (0 ∷ []))) ≡ Resting g w ps → WantsNothing (next_of set W marks t x)
+  nothing_wanted none t x acts g w ps n rests = nothing_by t (λ rest done pauses. wstep set W marks (state_of t x rest done pauses)) acts g w ps n rests (next_of set W marks t x) (machine_follows set W marks none t x)
 
 pub nothing_alike : (p : Program) (a b : Next) → NextLike p a b → WantsNothing a → WantsNothing b
 nothing_alike p (Goes a) (Goes b) like e = tt
@@ -263,7 +265,7 @@ module _ (set : Setting) (W : Program) (marks : List (List Bool)) (served : CanS
   nothing_at (mine ∷ fs) same top below kin pauses comes =
       let r = comes pauses in
       let s = first_step mine fs r.0 r.2 r.3 in
-      nothing_wanted set W marks t x (acts set W marks served t c x is.holds.reached) r.2 w (0 ∷ []) s.0
+      nothing_wanted set W marks (none_woven set W marks served.run.keeps served.run.form served.run.well served.woven) t x (acts set W marks served t c x is.holds.reached) r.2 w (0 ∷ []) s.0
       (subst (λ (z : List Activation). wsteps set W marks s.0 (wstep set W marks (state_in z x.fiber w (0 ∷ []))) ≡ Resting r.2 w (0 ∷ [])) (sym same) s.1)
 
   pub pauses_on : HasFree set W marks t f → (top : Activation) (below : List Activation) → f.frames ≡ top ∷ below → is_pausing f.fiber ≡ true → IsUnwinding (next_of set W marks t f)
