@@ -189,10 +189,9 @@ module _ (set : Setting) (code : Code) (old : Fiber) (x : Asked) (new : Fiber) (
       (receive n tree w.shape has.mid.heap has.root (message_sound p tree w.shape (subst (IsMessage p tree) same message)) has.received.put)
 
   -- it pauses at the take
-  refused_so : (box : BoxName) (deed : Option Deed) → Refused W mid new box → Holds set W marks old.task (course_of old) (paused_at box (behind_at 0 old.body)) → stands_at set old.task last ≡ Some (wait.Take box) → deed ≡ None → Went code set old (ToTake box) deed new
-  refused_so box deed w holds at e =
+  refused_so : (box : BoxName) (deed : Option Deed) → Refused W mid new box → Holds set W marks old.task (course_of old) (paused_at box (behind_at 0 old.body)) → stands_at set old.task last ≡ Some (wait.Take box) → 0 < old.body.count → deed ≡ None → Went code set old (ToTake box) deed new
+  refused_so box deed w holds at some e =
       let few = held.few in
-      let some = w.some in
       let count : new.body.count ≡ old.body.count = ap (λ (f : Standing). f.done) w.stands in
       let idle : new.idle ≡ false = w.idle ∙ held.busy in
       let there : Holds set W marks new.task (course_of new) (standing_at 0 new.body) = subst (λ (c : Course). Holds set W marks new.task c (standing_at 0 new.body)) (sym w.course)
@@ -214,10 +213,9 @@ module _ (set : Setting) (code : Code) (old : Fiber) (x : Asked) (new : Fiber) (
 
   -- it pauses at the put
   waits_so : (box : BoxName) (tree : List Object) (shape : List Token) (deed : Option Deed) → Waiting W mid new box tree shape → Holds set W marks old.task (course_of old) (waiting_at box (behind_at 0 (record old.body { apart = Some (record { tree = tree; shape = shape }) }))) →
-      stands_at set old.task last ≡ Some (wait.Put box) → IsMessage p tree shape → deed ≡ None → Went code set old (ToPutWait box shape) deed new
-  waits_so box tree shape deed w holds at message e =
+      stands_at set old.task last ≡ Some (wait.Put box) → 0 < old.body.count → IsMessage p tree shape → deed ≡ None → Went code set old (ToPutWait box shape) deed new
+  waits_so box tree shape deed w holds at some message e =
       let few = held.few in
-      let some = w.some in
       let count : new.body.count ≡ old.body.count = ap (λ (f : Standing). f.done) w.stands in
       let idle : new.idle ≡ false = w.idle ∙ held.busy in
       let there : Holds set W marks new.task (course_of new) (standing_at 0 new.body) = subst (λ (c : Course). Holds set W marks new.task c (standing_at 0 new.body)) (sym w.course)
@@ -251,14 +249,14 @@ module _ (set : Setting) (code : Code) (old : Fiber) (x : Asked) (new : Fiber) (
   by_answer (asked.PutWait box shape) (answer.Full tree same) deed w go wish e fits =
       subst (λ (z : Wish). Fits p z (answer.Full tree same) deed → Went code set old z deed new) (sym (same_Some _ _ e))
       (λ fit.
-      waits_so box tree shape.value deed (subst (λ (ts : List Token). Waiting W mid new box tree ts) fit.1 w) (go.0 tree) go.2 fit.2 fit.0) fits
+      waits_so box tree shape.value deed (subst (λ (ts : List Token). Waiting W mid new box tree ts) fit.1 w) (go.0 tree) go.2 go.3 fit.2 fit.0) fits
   by_answer (asked.Bound box most) answer.Done deed w go wish e fits =
       subst (λ (z : Wish). Fits p z answer.Done deed → Went code set old z deed new) (sym (same_Some _ _ e))
       (λ fit. passed (ToBound box most) (plain (act.Bound box most)) (counted (behind_at 0 old.body)) deed fit (λ b a r lt none. (lt, none)) w refl refl go) fits
   by_answer (asked.Take box) (answer.Message tree n) deed w go wish e fits =
       subst (λ (z : Wish). Fits p z (answer.Message tree n) deed → Went code set old z deed new) (sym (same_Some _ _ e)) (λ fit. take_came box tree n deed w go.1 fit) fits
   by_answer (asked.Take box) answer.Nothing deed w go wish e fits =
-      subst (λ (z : Wish). Fits p z answer.Nothing deed → Went code set old z deed new) (sym (same_Some _ _ e)) (λ fit. refused_so box deed w go.0 go.2 fit) fits
+      subst (λ (z : Wish). Fits p z answer.Nothing deed → Went code set old z deed new) (sym (same_Some _ _ e)) (λ fit. refused_so box deed w go.0 go.2 go.4 fit) fits
   by_answer (asked.Probe box) (answer.Message tree n) deed w go wish e fits =
       subst (λ (z : Wish). Fits p z (answer.Message tree n) deed → Went code set old z deed new) (sym (same_Some _ _ e)) (λ fit. probe_came box tree n deed w go.1 fit) fits
   by_answer (asked.Probe box) answer.Nothing deed w go wish e fits =

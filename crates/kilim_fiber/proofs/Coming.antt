@@ -1,5 +1,5 @@
 -- What a body comes to is what the thread of the course does next.
-use Rattle.std.proofs.Common.{◌≡◌, inl, inr, ◌≤◌, ◌+◌, ℕ, Bool, true, List, [], ◌∷◌, Option, Some, None, refl, sym, ap, subst, ◌∙◌}
+use Rattle.std.proofs.Common.{◌≡◌, inl, inr, ◌≤◌, ◌+◌, ℕ, arith, Bool, true, List, [], ◌∷◌, Option, Some, None, refl, sym, ap, subst, ◌∙◌}
 use Rattle.kilim_program.specs.declared.names.BoxName.{BoxName}
 use Rattle.kilim_program.specs.declared.names.MethodId.{MethodId}
 use Rattle.kilim_program.specs.declared.value.Value.{Value}
@@ -182,6 +182,7 @@ module _ (set : Setting) (code : Code) (served : ServesCode set code) (t : ℕ) 
           λ other. waiting new box shape other (aside_in new.apart) v.4 (holds_named set W marks t c 0 _ (v.1 new.heap tree e.1.out 0 (tree_heap other))),
           λ k. behind_named _ _ (out.1 k),
           ap get_at v.0.2,
+          let some = v.5 in omega (arith, some),
         ),
         out.0,
       )
@@ -192,6 +193,7 @@ module _ (set : Setting) (code : Code) (served : ServesCode set code) (t : ℕ) 
           λ other. holds_apart set W marks t c (waiting_at box (behind_at 0 new)) (record { root = 0; shape = shape; heap = tree_heap tree }) (record { root = 0; shape = shape; heap = tree_heap other }) refl (holds_named set W marks t c 0 _ v.1),
           λ k. behind_named _ _ (v.2 k),
           ap get_at v.0.2,
+          let some = v.5 in omega (arith, some),
         ),
         again_sound old tree shape apart (subst (HasNone (aside_in old)) e has),
       )
@@ -205,7 +207,8 @@ module _ (set : Setting) (code : Code) (served : ServesCode set code) (t : ℕ) 
       (ap wish_of v.0.2, λ k. behind_named _ _ (out.1 k), out.0)
   comes_to y new n w old apart has (came.Takes box) e room wants =
       let v = subst Is e w in
-      (ap wish_of v.0.1, (holds_named set W marks t c 0 _ v.1, receive_named box _ v.2, ap get_at v.0.1, room))
+      let some = v.4 in
+      (ap wish_of v.0.1, (holds_named set W marks t c 0 _ v.1, receive_named box _ v.2, ap get_at v.0.1, room, omega (arith, some)))
   comes_to y new n w old apart has (came.Probes box) e room wants =
       let v = subst Is e w in
       (ap wish_of v.0.1, (behind_named _ _ v.1, receive_named box _ v.2, room))

@@ -102,7 +102,6 @@ pub record Refused (W : Program) (old new : Fiber) (box : BoxName) : Type 0 wher
   pub stands : standing_at 0 new.body ≡ paused_at box (behind_at 0 old.body)
   pub roomy : RoomyIn W new.body.frames
   pub refused : new.refused ≡ Some (wait.Take box)
-  pub some : 0 < old.body.count
 
 -- a put was answered that its mailbox is full
 pub record Waiting (W : Program) (old new : Fiber) (box : BoxName) (tree : List Object) (shape : List Token) : Type 0 where
@@ -113,7 +112,6 @@ pub record Waiting (W : Program) (old new : Fiber) (box : BoxName) (tree : List 
   pub stands : standing_at 0 new.body ≡ waiting_at box (behind_at 0 (record old.body { apart = Some (record { tree = tree; shape = shape }) }))
   pub roomy : RoomyIn W new.body.frames
   pub refused : new.refused ≡ Some (wait.Put box)
-  pub some : 0 < old.body.count
 
 -- what comes of an answer to what was asked; other answers don't come
 abbrev pub Answered : Program → Program → Asked → Answer → Fiber → Fiber → Type 0

@@ -76,15 +76,15 @@ pub record HoldsFiber (W : Program) (marks : List (List Bool)) (set : Setting) (
   -- where it was just refused, it stands where it may have to wait for that, and not at its first instruction
   pub refused : (v : Waits) → f.refused ≡ Some v → (0 < f.body.count) × (stands_at set f.task last ≡ Some v)
 
--- behind each answer that fits its wish it is a fiber of the further course
+-- Behind each answer that fits its wish it is a fiber of the further course. Where it may have to wait, it has done an instruction.
 abbrev pub CanGoOn : Program → List (List Bool) → Setting → ℕ → Course → Lone → Body → Option Wish → Type 0
 CanGoOn W marks set t c last b (Some (ToPut box shape)) = (n : ℕ) → Behind set W marks t c (plain (act.Put box n shape)) (counted (behind_at 0 b))
 CanGoOn W marks set t c last b (Some (ToPutWait box shape)) =
     ((tree : List Object) → Holds set W marks t c (waiting_at box (behind_at 0 (record b { apart = Some (record { tree = tree; shape = shape }) }))))
-    × ((n : ℕ) → Behind set W marks t c (plain (act.Put box n shape)) (taken_at (behind_at 0 b))) × (stands_at set t last ≡ Some (wait.Put box))
+    × ((n : ℕ) → Behind set W marks t c (plain (act.Put box n shape)) (taken_at (behind_at 0 b))) × (stands_at set t last ≡ Some (wait.Put box)) × (0 < b.count)
 CanGoOn W marks set t c last b (Some (ToBound box most)) = Behind set W marks t c (plain (act.Bound box most)) (counted (behind_at 0 b))
 CanGoOn W marks set t c last b (Some (ToTake box)) =
-    Holds set W marks t c (paused_at box (behind_at 0 b)) × CanReceive set W marks t c box (taken_at (behind_at 0 b)) × (stands_at set t last ≡ Some (wait.Take box)) × RoomIn W b.frames
+    Holds set W marks t c (paused_at box (behind_at 0 b)) × CanReceive set W marks t c box (taken_at (behind_at 0 b)) × (stands_at set t last ≡ Some (wait.Take box)) × RoomIn W b.frames × (0 < b.count)
 CanGoOn W marks set t c last b (Some (ToProbe box)) =
     Behind set W marks t c (plain (act.Empty box)) (with_result (Some Null) (counted (behind_at 0 b))) × CanReceive set W marks t c box (counted (behind_at 0 b)) × RoomIn W b.frames
 CanGoOn W marks set t c last b (Some (ToStart shape)) = (n : ℕ) → Behind set W marks t c (plain (act.Start n shape)) (counted (behind_at 0 b))

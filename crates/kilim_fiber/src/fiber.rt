@@ -179,32 +179,12 @@ impl Fiber {
         note(&mut self.past, did);
     }
 
-    // No task takes or puts before its first instruction.
-    fn has_begun(&self) -> Result<(), NoMemory>
-        ensures { OnOk result (0 < self.now.body.count) }
-    {
-        if self.body.count == 0 {
-            // unmet: a `get` and a `putw` have operands, and the first frame has none
-            return Err(unmet());
-        }
-        Ok(())
-    }
-
     // A put is answered that its mailbox is full: it pauses, and its tree stands apart.
-    fn wait_at(
-        &mut self,
-        code: &Code,
-        mailbox: BoxName,
-        tree: Tree,
-        shape: Shape,
-    ) -> Result<(), NoMemory>
+    fn wait_at(&mut self, code: &Code, mailbox: BoxName, tree: Tree, shape: Shape)
         requires frames { HasFrames self.old.body.frames }
         requires roomy { RoomyIn code.now.program self.old.body.frames }
-        ensures { OnOk result (Waiting code.now.program self.old self.new mailbox tree shape) }
+        ensures { Waiting code.now.program self.old self.new mailbox tree shape }
     {
-        let Ok(()) = self.has_begun() else {
-            return Err(NoMemory);
-        };
         wait(
             self.alloc,
             &code.program,
@@ -214,7 +194,6 @@ impl Fiber {
             &mut self.body,
         );
         self.refused = Some(Waits::Put(mailbox));
-        Ok(())
     }
 
     // A message comes to a `get`.
@@ -266,17 +245,13 @@ impl Fiber {
     }
 
     // A take is answered nothing: it pauses.
-    fn refuse(&mut self, code: &Code, mailbox: BoxName) -> Result<(), NoMemory>
+    fn refuse(&mut self, code: &Code, mailbox: BoxName)
         requires roomy { RoomyIn code.now.program self.old.body.frames }
         requires room { RoomIn code.now.program self.old.body.frames }
-        ensures { OnOk result (Refused code.now.program self.old self.new mailbox) }
+        ensures { Refused code.now.program self.old self.new mailbox }
     {
-        let Ok(()) = self.has_begun() else {
-            return Err(NoMemory);
-        };
         pause(self.alloc, &code.program, mailbox, &mut self.body);
         self.refused = Some(Waits::Take(mailbox));
-        Ok(())
     }
 
     // The answer to what was asked.
@@ -302,7 +277,10 @@ impl Fiber {
                     self.put_on(code, Did::Put(mailbox, number, shape));
                     Ok(())
                 }
-                Answer::Full(tree, same) => self.wait_at(code, mailbox, tree, same),
+                Answer::Full(tree, same) => {
+                    self.wait_at(code, mailbox, tree, same);
+                    Ok(())
+                }
                 _ => unreachable!(),
             },
             Asked::Bound(mailbox, most) => match answer {
@@ -314,7 +292,10 @@ impl Fiber {
             },
             Asked::Take(mailbox) => match answer {
                 Answer::Message(tree, number) => self.receive(code, mailbox, tree, number),
-                Answer::Nothing => self.refuse(code, mailbox),
+                Answer::Nothing => {
+                    self.refuse(code, mailbox);
+                    Ok(())
+                }
                 _ => unreachable!(),
             },
             Asked::Probe(mailbox) => match answer {

@@ -1,5 +1,5 @@
 -- What a fiber does next is what the thread of its course does, and behind the deed it is a fiber of the further course.
-use Rattle.std.proofs.Common.{◌≡◌, ℕ, Bool, List, [], ◌∷◌, ◌++◌, Some, refl, sym, ap, subst, ◌∙◌, ◌<◌, ◌≤◌, arith}
+use Rattle.std.proofs.Common.{◌≡◌, ℕ, ◌+◌, Bool, true, List, [], ◌∷◌, ◌++◌, Some, refl, sym, ap, subst, ◌∙◌, ◌<◌, ◌≤◌, arith}
 use Rattle.kilim_program.specs.declared.names.BoxName.{BoxName}
 use Rattle.kilim_program.specs.declared.value.Value.TheVariants.{Null, Ref}
 use Rattle.kilim_program.specs.Program.{Program}
@@ -21,6 +21,7 @@ use Rattle.kilim_run_model.specs.Lone as thread
 use Rattle.kilim_run_model.specs.Moving.{further}
 use Rattle.kilim_run_model.specs.State.{Setting}
 use Rattle.kilim_fiber_laws.proofs.Actions.{IsAction, is_left, next_is}
+use Rattle.kilim_fiber_laws.proofs.Started.{has_started, is_wait}
 use Rattle.kilim_fiber_laws.proofs.Given.{Whole, all_well, next_whole}
 use Rattle.kilim_fiber_laws.proofs.Reached.{acts, along, first, is_fine, next_comes, next_like}
 use Rattle.kilim_fiber_laws.specs.Fibers.{Holds, IsFiberOf, IsReached}
@@ -93,6 +94,10 @@ module _ (set : Setting) (W : Program) (marks : List (List Bool)) (served : CanS
   within : (a : Action) (y g : Standing) → (comes : ComesTo set W marks t from c.deeds done a y) → y.done ≡ g.done → comes.2.done < set.limits.steps → g.done ≤ set.limits.steps
   within a y g comes same left = let more = comes.7 in omega (arith, more, same, left)
 
+  -- what may have to wait comes behind the first instruction
+  begun : (a : Action) (y g : Standing) → (comes : ComesTo set W marks t from c.deeds done a y) → is_wait a ≡ true → y.done ≡ g.done → 1 < g.done
+  begun a y g comes is same = let more = comes.7 in let some = has_started set t c a comes.2 (before a y comes) is in omega (arith, more, same, some)
+
   -- no other tree stands apart then
   alone : (a : Action) (y g : Standing) → (comes : ComesTo set W marks t from c.deeds done a y) → ApartKin y.aside g.aside → g.aside ≡ []
   alone a y g comes kin = none g.aside (subst (λ (ks : List Apart). ApartKin ks g.aside) (sym comes.8 ∙ (ap (λ (z : World). z.aside) (before a y comes).world ∙ wanted_same (λ (z : World). z.aside) (λ v. refl) a (world_at t (before a y comes).here [] (acts_of c.deeds [])))) kin)
@@ -154,6 +159,7 @@ module _ (set : Setting) (W : Program) (marks : List (List Bool)) (served : CanS
         gives_away OfMessage n m shape (λ k. plain (act.Put box k shape)) a g giving object (course.tree_left p n w.0) (λ k. ap (λ (z : thread.Next). done_by set z (plain (act.Put box k shape))) w.1) r.2,
         within (action.PutWaits box n shape) a g r.0 giving.is.done (is_left set t c (action.PutWaits box n shape) r.0.2 (before (action.PutWaits box n shape) a r.0)),
         alone (action.PutWaits box n shape) a g r.0 giving.is.aside,
+        begun (action.PutWaits box n shape) a g r.0 refl giving.is.done,
       )
 
   put_again_so : (box : BoxName) (n m : ℕ) (shape : List Token) (whole full paused q a g : Standing) → whole.done ≡ g.done → whole.aside ≡ a.aside → Like paused q → Like a g → Follows set W marks t from c.deeds done (PutsAgain box n shape whole paused a) → Is (PutsAgain box m shape full q g)
@@ -164,6 +170,7 @@ module _ (set : Setting) (W : Program) (marks : List (List Bool)) (served : CanS
         λ k. behind (plain (act.Put box k shape)) (course.tree_left p n w.0) (ap (λ (z : thread.Next). done_by set z (plain (act.Put box k shape))) w.1) a g (r.2 k) like,
         within (action.PutWaits box n shape) whole g r.0 same (is_left set t c (action.PutWaits box n shape) r.0.2 (before (action.PutWaits box n shape) whole r.0)),
         alone (action.PutWaits box n shape) whole g r.0 (subst (λ (ks : List Apart). ApartKin ks g.aside) (sym apart) like.is.aside),
+        begun (action.PutWaits box n shape) whole g r.0 refl same,
       )
 
   bound_so : (box : BoxName) (most : ℕ) (a g : Standing) → Like a g → Follows set W marks t from c.deeds done (Bounds box most a) → Is (Bounds box most g)
@@ -182,7 +189,7 @@ module _ (set : Setting) (W : Program) (marks : List (List Bool)) (served : CanS
   get_so : (box : BoxName) (paused q a g : Standing) → Like paused q → Like a g → Follows set W marks t from c.deeds done (Gets box paused a) → Is (Gets box q g)
   get_so box paused q a g rests like r =
       let w = action_of (action.Gets box) a r.0 in
-      ((w.0, w.1), still paused q rests r.1, receives box a g like w.0 w.2 (λ n shape. ap (λ (z : thread.Next). done_by set z (took box n shape)) w.1) r.2, within (action.Gets box) a g r.0 like.is.done (is_left set t c (action.Gets box) r.0.2 (before (action.Gets box) a r.0)))
+      ((w.0, w.1), still paused q rests r.1, receives box a g like w.0 w.2 (λ n shape. ap (λ (z : thread.Next). done_by set z (took box n shape)) w.1) r.2, within (action.Gets box) a g r.0 like.is.done (is_left set t c (action.Gets box) r.0.2 (before (action.Gets box) a r.0)), begun (action.Gets box) a g r.0 refl like.is.done)
 
   probe_so : (box : BoxName) (a g : Standing) → Like a g → Follows set W marks t from c.deeds done (Probes box a) → Is (Probes box g)
   probe_so box a g like r =

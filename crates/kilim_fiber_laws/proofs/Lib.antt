@@ -1,5 +1,6 @@
 pub mod Reached
 pub mod Actions
+pub mod Started
 pub mod Given
 pub mod Following
 pub mod Ready

@@ -1,5 +1,5 @@
 -- What a fiber of a course does next, against what the thread of the course does.
-use Rattle.std.specs.Prelude.{◌≡◌, ◌≤◌, ℕ, Bool, List, [], ◌∷◌, Some}
+use Rattle.std.specs.Prelude.{◌≡◌, ◌≤◌, ◌<◌, ℕ, Bool, List, [], ◌∷◌, Some}
 use Rattle.kilim_program.specs.declared.names.BoxName.{BoxName}
 use Rattle.kilim_program.specs.declared.value.Value.TheVariants.{Null, Ref}
 use Rattle.kilim_program.specs.Program.{Program}
@@ -45,18 +45,18 @@ module _ (set : Setting) (W : Program) (marks : List (List Bool)) (t : ℕ) (c :
 
   -- Where it goes on, pauses or rests it is still a fiber of the course. Where it acts, that is the next action of the thread `last` of the course;
   -- and behind the deed it is a fiber of the further course, with a count within the limit. Where it ends, so does the thread. At most one tree
-  -- stands apart: none does behind a put that waits. It is never where no verified code comes.
+  -- stands apart: none does behind a put that waits. What may have to wait comes behind the first instruction. It is never where no verified code comes.
   abbrev pub NextIs : Lone → Next → Type 0
   NextIs last (Goes f) = Holds set W marks t c f
   NextIs last (Rests f) = Holds set W marks t c f
   NextIs last (Puts box m shape f) =
       ((n : ℕ) × (after : Lone) × (next_action set t last ≡ thread.Puts box n shape after)) × CanGiveAway OfMessage m shape (λ n. plain (act.Put box n shape)) f × (f.done ≤ set.limits.steps)
   NextIs last (PutWaits box m shape paused f) =
-      ((n : ℕ) × (after : Lone) × (next_action set t last ≡ thread.PutWaits box n shape after)) × CanWait m shape paused × CanGiveAway OfMessage m shape (λ n. plain (act.Put box n shape)) f × (f.done ≤ set.limits.steps) × (f.aside ≡ [])
+      ((n : ℕ) × (after : Lone) × (next_action set t last ≡ thread.PutWaits box n shape after)) × CanWait m shape paused × CanGiveAway OfMessage m shape (λ n. plain (act.Put box n shape)) f × (f.done ≤ set.limits.steps) × (f.aside ≡ []) × (1 < f.done)
   NextIs last (PutsAgain box m shape full paused f) =
-      ((n : ℕ) × (after : Lone) × (next_action set t last ≡ thread.PutWaits box n shape after)) × Holds set W marks t c paused × ((n : ℕ) → Behind (plain (act.Put box n shape)) f) × (f.done ≤ set.limits.steps) × (f.aside ≡ [])
+      ((n : ℕ) × (after : Lone) × (next_action set t last ≡ thread.PutWaits box n shape after)) × Holds set W marks t c paused × ((n : ℕ) → Behind (plain (act.Put box n shape)) f) × (f.done ≤ set.limits.steps) × (f.aside ≡ []) × (1 < f.done)
   NextIs last (Bounds box most f) = ((after : Lone) × (next_action set t last ≡ thread.Bounds box most after)) × Behind (plain (act.Bound box most)) f × (f.done ≤ set.limits.steps)
-  NextIs last (Gets box paused f) = ((after : Lone) × (next_action set t last ≡ thread.Gets box after)) × Holds set W marks t c paused × CanReceive box f × (f.done ≤ set.limits.steps)
+  NextIs last (Gets box paused f) = ((after : Lone) × (next_action set t last ≡ thread.Gets box after)) × Holds set W marks t c paused × CanReceive box f × (f.done ≤ set.limits.steps) × (1 < f.done)
   NextIs last (Probes box f) = ((after : Lone) × (next_action set t last ≡ thread.Probes box after)) × Behind (plain (act.Empty box)) (with_result (Some Null) f) × CanReceive box f × (f.done ≤ set.limits.steps)
   NextIs last (Starts m shape f) = ((n : ℕ) × (after : Lone) × (next_action set t last ≡ thread.Starts n shape after)) × CanGiveAway OfTask m shape (λ n. plain (act.Start n shape)) f × (f.done ≤ set.limits.steps)
   NextIs last (Prints token f) = ((after : Lone) × (next_action set t last ≡ thread.Prints token after)) × Behind (plain (act.Print (token ∷ []))) f × (f.done ≤ set.limits.steps)

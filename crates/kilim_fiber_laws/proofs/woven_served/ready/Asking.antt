@@ -21,13 +21,13 @@ use Rattle.kilim_fiber_spec.proofs.alike.Lands.{hushed, q_index, q_int, q_object
 -- ---- what an effect that asks comes from
 
 module _ (c : MethodId) (args : List Value) (q : ℕ) (l2 s2 : List Value) (h2 : Objects) where
-  not_stuck : Stuck ≡ Asks c args q l2 s2 h2 → ⊥
+  pub not_stuck : Stuck ≡ Asks c args q l2 s2 h2 → ⊥
   not_stuck e = cc
 
   not_raised : (why : _) → Raises why ≡ Asks c args q l2 s2 h2 → ⊥
   not_raised why e = cc
 
-  not_called : (k : MethodId) (xs : List Value) (p : ℕ) (l s : List Value) (h : Objects) → Calls k xs p l s h ≡ Asks c args q l2 s2 h2 → ⊥
+  pub not_called : (k : MethodId) (xs : List Value) (p : ℕ) (l s : List Value) (h : Objects) → Calls k xs p l s h ≡ Asks c args q l2 s2 h2 → ⊥
   not_called k xs p l s h e = cc
 
   -- the topmost values, and those below

@@ -22,7 +22,7 @@ pub refuse-requires-clause-room : goal.refuse-requires-clause-room
 refuse-requires-clause-room c = c.requires.room (ap takes_value c.in-Take.is)
 
 pub returns-in-Nothing-answer : goal.returns-in-Nothing-answer
-returns-in-Nothing-answer c = answer_is c.args.code.now.plain c.args.code.now.program c.args.asked (asked.Take c.in-Take.mailbox) c.args.answer answer.Nothing c.args.self.now c.refuse.new.self c.refuse.result c.in-Take.is c.in-Nothing-answer.is c.refuse.ensures
+returns-in-Nothing-answer c = answer_now c.args.code.now.plain c.args.code.now.program c.args.asked (asked.Take c.in-Take.mailbox) c.args.answer answer.Nothing c.args.self.now c.refuse.new.self c.in-Take.is c.in-Nothing-answer.is c.refuse.ensures
 
 pub find-requires-clause-suits : goal.find-requires-clause-suits
 find-requires-clause-suits c = subst (λ (a : Answer). AnswerSuits c.args.code.now.plain a) c.in-Message-answer.is c.requires.suits
