@@ -1,3 +1,4 @@
 mod Bounds
 mod Caught
+mod FibersCatch
 mod States

@@ -1,3 +1,4 @@
 pub mod Bounds
 pub mod Caught
+pub mod FibersCatch
 pub mod States

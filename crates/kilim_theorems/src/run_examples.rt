@@ -2,6 +2,7 @@
 
 ghost use Rattle.kilim_theorems.specs.run_examples.Bounds.{BoundsAtEdges};
 ghost use Rattle.kilim_theorems.specs.run_examples.Caught.{CaughtCountsOnce};
+ghost use Rattle.kilim_theorems.specs.run_examples.FibersCatch.{FibersCatch};
 ghost use Rattle.kilim_theorems.specs.run_examples.States.{StatesAreJudged};
 
 /// A law, and no work: states in which an object is shared aren't isolated, each for one way of sharing, and one in which none is, is.
@@ -13,6 +14,12 @@ pub fn states_are_judged()
 /// built-in method raises it.
 pub fn caught_counts_once()
     ensures { CaughtCountsOnce }
+{}
+
+/// A law, and no work: a woven fiber catches as the thread beside it does. Both go on at the frames that are left, with one instruction
+/// more; an exception that nothing catches is counted too, and then ends the task.
+pub fn fibers_catch()
+    ensures { FibersCatch }
 {}
 
 /// A law, and no work: what happens at a mailbox that has a bound: when it is full, which bounds there are, what the two puts do there, and
