@@ -10,7 +10,7 @@ use Rattle.kilim_mail_stamps.specs.Merging.{weigh}
 use Rattle.kilim_mail_stamps.proofs.Weights.{weigh_append}
 use Rattle.kilim_mail_ledger.specs.declared.items.Item.{Item}
 use Rattle.kilim_mail_notes.specs.declared.notes.Ledger.{Ledger}
-use Rattle.kilim_mail_notes.specs.Notes.{Move, Moved, moves_coded, read_out, move_numbers, is_by, moves_by, moves_in, cells_from, ledger_cells, brings, owes, Balances, Accounts}
+use Rattle.kilim_mail_notes.specs.Notes.{Move, Named, Moved, moves_coded, read_out, move_numbers, is_by, moves_by, named_from, moves_in, cells_from, ledger_cells, IsNamed, AllNamed, brings, owes, Balances, Accounts}
 
 abbrev first : List ℕ → ℕ
 first [] = 0
@@ -134,3 +134,108 @@ module _ (l l' : Ledger) (seat : ℕ) (m : Move) (size : l'.seats ≡ l.seats) (
 
 pub new_cells : (l : Ledger) (n : ℕ) → l.seats ≡ n → length (ledger_cells l) ≡ n
 new_cells l n e = length_cells 0 l.seats (moves_in l) ∙ e
+
+-- ---- of several turns, which one it is
+
+one_at : (k : ℕ) (x : Moved) (xs : List Moved) → moves_by k (x ∷ xs) ≡ cond (is_by k x) (x.move ∷ moves_by k xs) (moves_by k xs)
+one_at k x xs = pushed_at k (is_by k x) x (filter (is_by k) xs)
+
+named_before : (k s n number turns : ℕ) → k < s → moves_by k (named_from s n number turns) ≡ []
+named_before k s zero number turns lt = refl
+named_before k s (suc n) number turns lt =
+    let e : (s == k) ≡ false = grind (arith, nat_tests) in
+    one_at k (record { seat = s; move = Named number turns }) (named_from (suc s) n number turns)
+    ∙ (ap (λ (b : Bool). cond b (Named number turns ∷ moves_by k (named_from (suc s) n number turns)) (moves_by k (named_from (suc s) n number turns))) e
+    ∙ named_before k (suc s) n number turns (omega arith))
+
+named_here : (k s n number turns : ℕ) → s ≤ k → k < s + n → moves_by k (named_from s n number turns) ≡ Named number turns ∷ []
+named_here k s zero number turns le lt = absurd (omega arith)
+named_here k s (suc n) number turns le lt = one_at k (record { seat = s; move = Named number turns }) (named_from (suc s) n number turns) ∙ by (s == k) refl (λ more. named_here k (suc s) n number turns more (omega arith))
+  where
+    others : List Move
+    others = moves_by k (named_from (suc s) n number turns)
+
+    by : (b : Bool) → (s == k) ≡ b → (suc s ≤ k → others ≡ Named number turns ∷ []) → cond (s == k) (Named number turns ∷ others) others ≡ Named number turns ∷ []
+    by true e later =
+        let less : k < suc s = grind (arith, nat_tests) in
+        ap (λ (b : Bool). cond b (Named number turns ∷ others) others) e ∙ ap (λ (ms : List Move). Named number turns ∷ ms) (named_before k (suc s) n number turns less)
+    by false e later = let more : suc s ≤ k = grind (arith, nat_tests) in ap (λ (b : Bool). cond b (Named number turns ∷ others) others) e ∙ later more
+
+named_below : (s n m number turns : ℕ) → s + n ≤ m → AllByRecursion (λ (x : Moved). x.seat < m) (named_from s n number turns)
+named_below s zero m number turns le = tt
+named_below s (suc n) m number turns le = ((let h : s < m = omega arith in h), named_below (suc s) n m number turns (omega arith))
+
+named_weigh : (f : Move → ℕ) (s n number turns : ℕ) → f (Named number turns) ≡ 0 → weigh (λ (x : Moved). f x.move) (named_from s n number turns) ≡ 0
+named_weigh f s zero number turns e = refl
+named_weigh f s (suc n) number turns e = let r = named_weigh f (suc s) n number turns e in omega arith
+
+module _ (l : Ledger) (number turns : ℕ) (is : moves_in l ≡ named_from 0 l.seats number turns) where
+  pub new_named : AllNamed number turns (ledger_cells l)
+  new_named s lt =
+      let n = length_cells 0 l.seats (moves_in l) in
+      let less : s < l.seats = omega arith in
+      ([], cell_own l.seats s (moves_in l) less ∙ ap move_numbers (ap (moves_by s) is ∙ named_here s 0 l.seats number turns (omega arith) (omega arith)))
+
+  pub new_balances : Balances l [] []
+  new_balances = record {
+    same = λ h.
+        let a = ap (weigh (λ (m : Moved). owes h m.move)) is in
+        let b = ap (weigh (λ (m : Moved). brings h m.move)) is in
+        let c = named_weigh (owes h) 0 l.seats number turns refl in
+        let d = named_weigh (brings h) 0 l.seats number turns refl in
+        omega arith;
+    seats = subst (λ (ms : List Moved). AllByRecursion (λ (x : Moved). x.seat < l.seats) ms) (sym is) (named_below 0 l.seats l.seats number turns (omega arith));
+  }
+
+abbrev first_move : Move → List Move → Move
+first_move d [] = d
+first_move d (m ∷ ms) = m
+
+abbrev number_in : Move → ℕ
+number_in (Named number turns) = number
+number_in m = 0
+
+abbrev turns_in : Move → ℕ
+turns_in (Named number turns) = turns
+turns_in m = 0
+
+pub named_alike : (number turns number' turns' : ℕ) (cell : List ℕ) → IsNamed number turns cell → IsNamed number' turns' cell → (number ≡ number') × (turns ≡ turns')
+named_alike number turns number' turns' cell (ms, e) (ns, f) =
+    let s : Named number turns ∷ ms ≡ Named number' turns' ∷ ns = same_moves (Named number turns ∷ ms) (Named number' turns' ∷ ns) (sym e ∙ f) in
+    (ap (λ (l : List Move). number_in (first_move (Named 0 0) l)) s, ap (λ (l : List Move). turns_in (first_move (Named 0 0) l)) s)
+
+pub named_on : (number turns : ℕ) (old new : List ℕ) (before after : List Item) → Accounts old new before after → IsNamed number turns old → IsNamed number turns new
+named_on number turns old new before after acc (ms, e) = let x = acc.each (Named number turns ∷ ms) e in (ms ++ x.0, x.1)
+
+pub all_named_on : (number turns seat : ℕ) (old new : List (List ℕ)) (before after : List Item) → KeepsOthers seat old new → Accounts (cell_at old seat) (cell_at new seat) before after → AllNamed number turns old → AllNamed number turns new
+all_named_on number turns seat old new before after keeps acc all s lt = by (s == seat) refl
+  where
+    there : s < length old
+    there = let e = keeps.seats in omega arith
+
+    by : (b : Bool) → (s == seat) ≡ b → IsNamed number turns (cell_at new s)
+    by true e =
+        let same : seat ≡ s = grind (arith, nat_tests) in
+        subst (λ (k : ℕ). IsNamed number turns (cell_at new k)) same (named_on number turns (cell_at old seat) (cell_at new seat) before after acc (subst (λ (k : ℕ). IsNamed number turns (cell_at old k)) (sym same) (all s there)))
+    by false e =
+        let ne : s ≢ seat = λ f. absurd (let g : (s == seat) ≡ true = grind (arith, nat_tests) in let h : true ≡ false = sym g ∙ e in cc) in
+        subst (λ (c : List ℕ). IsNamed number turns c) (sym (keeps.others s ne)) (all s there)
+
+-- one after the other
+pub accounts_then : (a b c : List ℕ) (x y u v before after : List Item) → Accounts a b x y → Accounts b c u v → ((h : Item → ℕ) → weigh h after + (weigh h x + weigh h u) ≡ weigh h before + (weigh h y + weigh h v)) → Accounts a c before after
+accounts_then a b c x y u v before after one two same = record {
+  each = λ ms e.
+      let p = one.each ms e in
+      let q = two.each (ms ++ p.0) p.1 in
+      (p.0 ++ q.0, q.1 ∙ ap move_numbers (appended ms p.0 q.0), λ h. let i = p.2 h in let j = q.2 h in let k = same h in let l = weigh_append (brings h) p.0 q.0 in let m = weigh_append (owes h) p.0 q.0 in omega arith);
+}
+  where
+    appended : (xs ys zs : List Move) → (xs ++ ys) ++ zs ≡ xs ++ (ys ++ zs)
+    appended [] ys zs = refl
+    appended (z ∷ xs) ys zs = ap (λ (l : List Move). z ∷ l) (appended xs ys zs)
+
+pub accounts_none : (a b : List ℕ) (before : List Item) → b ≡ a → Accounts a b before before
+accounts_none a b before same = record { each = λ ms e. ([], same ∙ (e ∙ ap move_numbers (sym (append-nil ms))), λ h. refl) }
+
+pub keeps_then : (seat : ℕ) (a b c : List (List ℕ)) → KeepsOthers seat a b → KeepsOthers seat b c → KeepsOthers seat a c
+keeps_then seat a b c one two = record { seats = two.seats ∙ one.seats; others = λ k ne. two.others k ne ∙ one.others k ne }

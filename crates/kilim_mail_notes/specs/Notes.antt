@@ -1,8 +1,9 @@
 -- What came, what went and what was made under a turn, against what lies there.
-use Rattle.std.specs.Prelude.{◌≡◌, ℕ, zero, suc, ◌+◌, ◌<◌, Bool, ◌==◌, List, [], ◌∷◌, ◌++◌, map, filter}
+use Rattle.std.specs.Prelude.{◌≡◌, ℕ, zero, suc, ◌+◌, ◌<◌, Bool, ◌==◌, List, [], ◌∷◌, ◌++◌, map, filter, length}
 use Rattle.std.specs.List.{AllByRecursion}
 use Rattle.std.specs.Coded.{Coded, codes}
 use base.Stored.{Gv, gnil, gnum, gcons}
+use Rattle.kilim_run_turn.specs.Views.{cell_at}
 use Rattle.kilim_mail_stamps.specs.Merging.{weigh}
 use Rattle.kilim_mail_ledger.specs.declared.items.Dated.{Dated}
 use Rattle.kilim_mail_ledger.specs.declared.items.Item.{Item}
@@ -15,8 +16,9 @@ use Rattle.kilim_mail_notes.specs.declared.notes.Note.TheVariants as note
 use Rattle.kilim_mail_notes.specs.declared.notes.Notes.{Notes}
 use Rattle.kilim_mail_notes.specs.declared.notes.Notes as notes
 
--- items that came, that went, and that were made
+-- items that came, that went, and that were made; and before all others, of several turns of one kind, which one it is, and of how many
 pub data Move : Type 0 where
+  Named : (number turns : ℕ) → Move
   Came : (items : List Item) → Move
   Went : (items : List Item) → Move
   Made : (items : List Item) → Move
@@ -35,8 +37,14 @@ moved_by (note.Came seat history) = record { seat = seat; move = Came (items_of 
 moved_by (note.Went seat history) = record { seat = seat; move = Went (items_of (trace_of history.value)) }
 moved_by (note.Made seat task mark) = record { seat = seat; move = Made (made_items task (dated_of mark.value)) }
 
+-- so many seats from s on are told
+abbrev pub named_from : ℕ → ℕ → ℕ → ℕ → List Moved
+named_from s zero number turns = []
+named_from s (suc n) number turns = record { seat = s; move = Named number turns } ∷ named_from (suc s) n number turns
+
 abbrev pub notes_of : Notes → List Moved
 notes_of notes.Nothing = []
+notes_of (notes.Named seats number turns) = named_from 0 seats number turns
 notes_of (notes.After' s past n) = notes_of past ++ moved_by n ∷ []
 
 abbrev pub moves_in : Ledger → List Moved
@@ -69,6 +77,13 @@ cells_from s (suc n) ms = move_numbers (moves_by s ms) ∷ cells_from (suc s) n 
 
 abbrev pub ledger_cells : Ledger → List (List ℕ)
 ledger_cells l = cells_from 0 l.seats (moves_in l)
+
+-- the cell of a seat under the turn of that number, of so many
+abbrev pub IsNamed : ℕ → ℕ → List ℕ → Type 0
+IsNamed number turns cell = (ms : List Move) × (cell ≡ move_numbers (Named number turns ∷ ms))
+
+abbrev pub AllNamed : ℕ → ℕ → List (List ℕ) → Type 0
+AllNamed number turns cells = (s : ℕ) → s < length cells → IsNamed number turns (cell_at cells s)
 
 -- ---- the balance
 

@@ -7,7 +7,7 @@ ghost use Rattle.kilim_mail_stamps.specs.Merging.{weigh};
 ghost use Rattle.kilim_mail_ledger.specs.declared.items.Item.{Item};
 ghost use Rattle.kilim_mail_ledger.specs.Ledger.{items_of};
 ghost use Rattle.kilim_mail_notes.specs.Histories.{dated_of, trace_of};
-ghost use Rattle.kilim_mail_notes.specs.Notes.{Came, Went, Made, moved_by, notes_of, moves_in, ledger_cells, made_items, Accounts, Balances};
+ghost use Rattle.kilim_mail_notes.specs.Notes.{Came, Went, Made, moved_by, notes_of, moves_in, ledger_cells, made_items, AllNamed, Accounts, Balances};
 
 use crate::histories::{History, Mark};
 use std::snapshot::Snapshot;
@@ -28,6 +28,8 @@ pub enum Note {
 pub enum Notes {
     /// None yet.
     Nothing,
+    /// None yet, of so many seats of the turn of that number, of so many.
+    Named(usize, usize, usize),
     /// This, after the others.
     After(Snapshot<Notes>, Note),
 }
@@ -68,6 +70,20 @@ impl Ledger {
         Ledger {
             seats,
             notes: no_notes(),
+        }
+    }
+
+    /// So many seats of the turn of that number, of so many turns, which did nothing.
+    pub fn named(seats: usize, number: usize, turns: usize) -> Ledger
+        ensures seats { result.seats ≡ seats }
+        ensures cells { length (ledger_cells result) ≡ seats }
+        ensures named { AllNamed number turns (ledger_cells result) }
+        ensures balances { Balances result [] [] }
+    {
+        let named = Notes::Named(seats, number, turns);
+        Ledger {
+            seats,
+            notes: Snapshot::of(&named),
         }
     }
 

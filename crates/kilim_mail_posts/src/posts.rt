@@ -1,7 +1,8 @@
 //! The mailboxes that an act has named.
 
-ghost use Rattle.std.specs.Prelude.{◌≡◌, ◌+◌, ◌<◌, ◌^◌, [], ℕ, false, None, OnOk, IfSome, IfNone};
+ghost use Rattle.std.specs.Prelude.{◌≡◌, ◌+◌, ◌<◌, ◌^◌, ◌==◌, ◌∷◌, [], ℕ, List, false, None, OnOk, IfSome, IfNone, length};
 ghost use Rattle.kilim_program.specs.Program.{Program};
+ghost use Rattle.kilim_run_state.specs.declared.value.Token.{Token};
 ghost use Rattle.kilim_run_journal.specs.declared.entry.Act.TheVariants as act;
 ghost use Rattle.kilim_run_board.specs.fibers.Wishes.{IsMessage};
 ghost use Rattle.kilim_run_model.specs.State.{is_full};
@@ -42,6 +43,26 @@ impl Posts {
         match self.by_name.get(&(name.task, name.number)) {
             Some(post) => post.is_full(),
             None => false,
+        }
+    }
+
+    /// Whether no message waits in a mailbox.
+    pub fn is_empty(&self, name: BoxName) -> bool
+        ensures { result ≡ (length (box_at self.now name).mail.queue == 0) }
+    {
+        match self.by_name.get(&(name.task, name.number)) {
+            Some(post) => post.is_empty(),
+            None => true,
+        }
+    }
+
+    /// The stamp of a mailbox's last entry, and 0 where there is none.
+    pub fn clock(&self, name: BoxName) -> u64
+        ensures { result ≡ (box_at self.now name).clock }
+    {
+        match self.by_name.get(&(name.task, name.number)) {
+            Some(post) => post.clock,
+            None => 0,
         }
     }
 
@@ -91,6 +112,7 @@ impl Posts {
     /// The first message of a mailbox is taken, with that stamp, where there is one. Takes no memory.
     pub fn take(&mut self, name: BoxName, stamp: u64) -> Option<Message>
         ensures some { IfSome result (λ m. Writes self.old name (act.Take name m.number) stamp self.new) }
+        ensures first { IfSome result (λ m. (rest : List (ℕ × List Token)) × ((box_at self.old name).mail.queue ≡ (m.number, m.shape.value) ∷ rest)) }
         ensures message { IfSome result (λ m. (p : Program) → AllMessages p self.old → IsMessage p m.tree m.shape.value) }
         ensures messages { (p : Program) → AllMessages p self.old → AllMessages p self.new }
         ensures none { IfNone result ((box_at self.old name).mail.queue ≡ []) }

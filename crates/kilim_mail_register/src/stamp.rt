@@ -1,6 +1,6 @@
 //! Stamps.
 
-ghost use Rattle.std.specs.Prelude.{◌≡◌, ◌<◌, ◌+◌, IfOk, max};
+ghost use Rattle.std.specs.Prelude.{◌≡◌, ◌<◌, ◌≤◌, ◌+◌, ◌^◌, IfOk, OnErr, max};
 
 use kilim_units::{NoMemory, no_room};
 
@@ -10,6 +10,7 @@ pub fn next_stamp(clock: u64, other: u64) -> Result<u64, NoMemory>
     ensures exact { IfOk result (λ s. s ≡ max clock other + 1) }
     ensures mine { IfOk result (λ s. clock < s) }
     ensures other { IfOk result (λ s. other < s) }
+    ensures refused { OnErr result (2 ^ 64 ≤ max clock other + 1) }
 {
     if clock < other {
         if other == u64::MAX {

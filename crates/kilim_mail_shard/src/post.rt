@@ -1,6 +1,6 @@
 //! A mailbox of a turn: its messages, its bound and its clock.
 
-ghost use Rattle.std.specs.Prelude.{◌≡◌, ◌+◌, ◌<◌, ◌≤◌, ◌^◌, ◌∷◌, ◌++◌, [], ℕ, None, Some, false, OnOk, IfSome, IfNone, MatchOption, length};
+ghost use Rattle.std.specs.Prelude.{◌≡◌, ◌+◌, ◌<◌, ◌≤◌, ◌^◌, ◌==◌, ◌∷◌, ◌++◌, [], ℕ, None, Some, false, OnOk, IfSome, IfNone, MatchOption, length};
 ghost use Rattle.std.specs.VecDeque.{deque_capacity};
 ghost use Rattle.kilim_program.specs.Program.{Program};
 ghost use Rattle.kilim_program.specs.declared.names.BoxName.{BoxName};
@@ -83,6 +83,13 @@ impl Post {
         }
     }
 
+    /// Whether no message waits.
+    pub fn is_empty(&self) -> bool
+        ensures { result ≡ (length (mail_in self.now).queue == 0) }
+    {
+        self.queue.is_empty()
+    }
+
     /// Makes room for one more message. The error is want of memory.
     pub fn reserve(&mut self) -> Result<(), NoMemory>
         ensures mail { mail_in self.new ≡ mail_in self.old }
@@ -120,6 +127,7 @@ impl Post {
     /// The first message is taken, with that stamp, where there is one. Takes no memory.
     pub fn take(&mut self, stamp: u64) -> Option<Message>
         ensures some { IfSome result (λ m. (box : BoxName) → mail_after (mail_in self.old) (act.Take box m.number) ≡ Some (mail_in self.new)) }
+        ensures first { IfSome result (λ m. (mail_in self.old).queue ≡ (m.number, m.shape.value) ∷ (mail_in self.new).queue) }
         ensures clock { IfSome result (λ m. self.new.clock ≡ stamp) }
         ensures message { IfSome result (λ m. (p : Program) → MessagesStand p self.old.queue.items → IsMessage p m.tree m.shape.value) }
         ensures messages { (p : Program) → MessagesStand p self.old.queue.items → MessagesStand p self.new.queue.items }

@@ -20,3 +20,6 @@ returns-in-Some-clause-none c = none_both c.take.result (λ e also. ap (λ (o : 
 
 pub returns-in-Some-clause-same : goal.returns-in-Some-clause-same
 returns-in-Some-clause-same c = none_both c.take.result (λ e also. stays c.args.self.now (record { by_name = c.get_mut.follows.lender c.take.new.self; alloc = c.args.self.now.alloc }) c.args.name c.take.new.self ((c.get_mut.follows.holds c.take.new.self).3 (search rules)) c.in-Some.post.now (sym c.in-Some.ensures.value) e.0 e.1) c.take.ensures.same c.take.ensures.same
+
+pub returns-in-Some-clause-first : goal.returns-in-Some-clause-first
+returns-in-Some-clause-first c = some_both c.take.result (λ m first also. (_, ap (λ (o : Option Post). (box_in o).mail.queue) (sym c.in-Some.ensures.value) ∙ first)) c.take.ensures.first c.take.ensures.first

@@ -1,4 +1,6 @@
-use Rattle.std.proofs.Common.{refl}
+use Rattle.std.proofs.Common.{refl, ap}
+use Rattle.std.specs.Prelude.{map}
+use Rattle.kilim_mail_shard.specs.Post.{shown}
 use Rattle.kilim_mail_shard.proofs.Posts.{take_after, message_first}
 use Rattle.kilim_mail_shard.proofs.post.Post.take.Goals as goal
 
@@ -11,3 +13,6 @@ returns-in-Some-clause-message c = λ p stand. (message_first p c.args.self.now.
 
 pub returns-in-Some-clause-messages : goal.returns-in-Some-clause-messages
 returns-in-Some-clause-messages c = λ p stand. (message_first p c.args.self.now.queue.items c.pop_first.new.queue.items c.in-Some.message c.in-Some.ensures stand).1
+
+pub returns-in-Some-clause-first : goal.returns-in-Some-clause-first
+returns-in-Some-clause-first c = ap (map shown) c.in-Some.ensures
