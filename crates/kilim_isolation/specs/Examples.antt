@@ -11,7 +11,7 @@ use Rattle.kilim_program.specs.declared.names.FieldId.{FieldId}
 use Rattle.kilim_program.specs.declared.names.MethodId.{MethodId}
 use Rattle.kilim_program.specs.declared.ty.Ty.{Ty}
 use Rattle.kilim_program.specs.declared.ty.Qualifier.{Qualifier}
-use Rattle.kilim_program.specs.declared.ty.Qualifier.TheVariants.{Cuttable, Safe}
+use Rattle.kilim_program.specs.declared.ty.Qualifier.TheVariants.{Cuttable, Free, Safe}
 use Rattle.kilim_program.specs.declared.verified.Frame.{Frame}
 use Rattle.kilim_program.specs.declared.verified.VType.TheVariants.{Object}
 use Rattle.kilim_program.specs.Program.{Program}
@@ -178,9 +178,25 @@ run_put_raises = along_edges program_put_and_catch 1 (goes (3 ∷ 4 ∷ 5 ∷ 8 
 abbrev pub run_caught_before : Walked
 run_caught_before = along_edges program_put_and_catch 1 (goes (3 ∷ 4 ∷ 5 ∷ 8 ∷ 9 ∷ 10 ∷ 13 ∷ []) ++ ((exit.Handler 18, 18) ∷ goes (19 ∷ 20 ∷ 23 ∷ 26 ∷ [])))
 
+-- A constructor of N stores its free parameter below its receiver, and calls the constructor of `java/lang/Object` with it.
+abbrev pub in_sixth : Method → List Method → List Method
+in_sixth m (a ∷ b ∷ c ∷ d ∷ e ∷ f ∷ ms) = a ∷ b ∷ c ∷ d ∷ e ∷ m ∷ ms
+in_sixth m ms = ms
+
+abbrev pub code_super_cuts : List (ℕ × Instr)
+code_super_cuts = (0, Aload 0) ∷ (1, Aload 1) ∷ (2, Putfield (field_id 2)) ∷ (5, Aload 0) ∷ (6, Invokespecial (method_id 6)) ∷ (9, Aload 1) ∷ (10, Getfield (field_id 3)) ∷ (13, Invokestatic (method_id 17)) ∷ (16, Return) ∷ []
+
+abbrev pub program_super_cuts : Program
+program_super_cuts =
+    let p = program 1 none 1 none in
+    record p { methods = in_sixth (method (codes "<init>") 2 false (class_type 2 ∷ []) Cuttable (Free ∷ []) 17 code_super_cuts) p.methods }
+
+abbrev pub run_super_cuts : Walked
+run_super_cuts = along program_super_cuts 5 (1 ∷ 2 ∷ 5 ∷ 6 ∷ 9 ∷ 10 ∷ [])
+
 -- what they say: a message put and used, the second name of a cut child, a child cut and put, a root into itself, a cuttable
 -- parameter into a new object, one object passed as cuttable and safe, a variable with a new message; a put that raises, and what is
--- raised before it
+-- raised before it; what lay below the receiver of a call of `super`
 pub record ExamplesHold : Type 0 where
   pub put_then_use : run_put_then_use ≡ Err (17, 2)
   pub second_name : run_second_name ≡ Err (31, 2)
@@ -191,3 +207,4 @@ pub record ExamplesHold : Type 0 where
   pub new_message : is_ok run_new_message ≡ true
   pub put_raises : run_put_raises ≡ Err (19, 2)
   pub caught_before : is_ok run_caught_before ≡ true
+  pub super_cuts : run_super_cuts ≡ Err (9, 2)

@@ -37,8 +37,10 @@ is_cuttable (Some qualifier.Safe) = false
 abbrev pub is_owned : Option Qualifier → Bool
 is_owned q = is_free q || is_cuttable q
 
+-- The receiver of a constructor has the constructor's own qualifier, also where its class is no tree: that of `java/lang/Object` too. (Linking
+-- makes it cuttable, always.)
 abbrev pub quality_in : Program → Passed → Option Qualifier
-quality_in p a = quality p a.into a.qualifier
+quality_in p a = if a.is_begun then Some a.qualifier else quality p a.into a.qualifier
 
 -- ---- the arguments
 

@@ -40,6 +40,9 @@ fn is_cuttable(quality: Option<Qualifier>) -> bool
 fn quality_in(program: &Program, argument: &Passed) -> Option<Qualifier>
     ensures { result ≡ spec.quality_in program.now argument.now }
 {
+    if argument.is_begun {
+        return Some(argument.qualifier);
+    }
     quality(program, &argument.into, argument.qualifier)
 }
 

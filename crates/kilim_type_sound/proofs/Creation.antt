@@ -24,7 +24,7 @@ use Rattle.kilim_program.specs.Members.{is_instance_field, is_concrete}
 use Rattle.kilim_program.specs.Kinds.{is_value_class}
 use Rattle.kilim_program.specs.Same.{is_constructor}
 use Rattle.kilim_program.specs.Fits.{is_named, fits_type}
-use Rattle.kilim_run_machine.specs.Effect.{Effect, Goes, Makes, Opens, Calls, on_values, on_receiver}
+use Rattle.kilim_run_machine.specs.Effect.{Asks, Effect, Goes, Makes, Opens, Calls, on_values, on_receiver}
 use Rattle.kilim_program.specs.Members.{named_type}
 use Rattle.kilim_run_machine.specs.Does.{is_mailbox}
 use Rattle.kilim_run_state.specs.Objects.{new_object, first_field, first_value, first_value_of}
@@ -342,16 +342,46 @@ module _ (p : Program) (facts : Facts p) (m : Method) (of : Classes) (h : Object
           same = refl;
         }))
 
-    pub constructor_built_in : (id : MethodId) (callee : Method) → method_at p id ≡ Some callee → callee.built_in ≡ true → is_constructor callee ≡ true → (before after : List Further) →
+    pub constructor_built_in : (id : MethodId) (callee : Method) → method_at p id ≡ Some callee → callee.built_in ≡ true → is_constructor callee ≡ true → callee.params ≡ [] → (before after : List Further) →
         by_row p m at (Constructs (arguments callee) (result_types callee.result) callee.owner before after) f ≡ Ok g → After i (on_receiver vs (λ receiver rest. Goes next ls rest h))
-    constructor_built_in id callee there own con before after r =
+    constructor_built_in id callee there own con empty before after r =
         let x = construct callee before after r in
         let none = facts.constructors id callee there own con in
-        let count : length (arguments callee) ≡ 0 = ap (λ (tys : List Ty). length (reverse (map (λ ty. Is (vtype ty)) tys))) none.0 in
+        let count : length (arguments callee) ≡ 0 = ap (λ (tys : List Ty). length (reverse (map (λ ty. Is (vtype ty)) tys))) empty in
         on_this callee (result_types callee.result) after _ x.fit vs (subst (λ (n : ℕ). have_types p m of (drop n f.stack) vs ≡ true) (sym count) b.stack) (λ receiver rest. Goes next ls rest h) (λ v rest d s.
         subst (λ (z : Types). GoesOn p m of live (edges i next) z Nothing next ls rest h) x.fit.after_is
-        (subst (λ (o : Option Ty). GoesOn p m of live (edges i next) (made_types x.fit.old x.fit.new x.fit.u (result_types callee.result) x.fit.s) (result_awaited o) next ls rest h) none.1
+        (subst (λ (o : Option Ty). GoesOn p m of live (edges i next) (made_types x.fit.old x.fit.new x.fit.u (result_types callee.result) x.fit.s) (result_awaited o) next ls rest h) none.0
         (constructed_goes x.fit.old x.fit.new x.fit.u x.fit.s rest callee.result x.fit.becomes s)))
+
+    -- the receiver of a built-in constructor that takes something is initialized for it
+    this_is_object : (callee : Method) (v : Value) → has_type p callee of UninitThis v ≡ true → has_type p callee of (class_vtype callee.owner) v ≡ true
+    this_is_object callee (value.Int x) e = absurd (cc)
+    this_is_object callee (value.Long x) e = absurd (cc)
+    this_is_object callee value.Null e = absurd (cc)
+    this_is_object callee (value.Ref n) e = e
+    this_is_object callee (value.Text units) e = e
+    this_is_object callee (value.Box box) e = e
+    this_is_object callee value.Fiber e = e
+
+    pub constructor_asks : (id : MethodId) (callee : Method) → method_at p id ≡ Some callee → callee.built_in ≡ true → callee.is_static ≡ false → (before after : List Further) →
+        by_row p m at (Constructs (arguments callee) (result_types callee.result) callee.owner before after) f ≡ Ok g →
+        After i (on_values (length callee.params) vs (λ args below. on_receiver below (λ receiver rest. Asks id (receiver ∷ reverse args) next ls rest h)))
+    constructor_asks id callee there own inst before after r =
+        let x = construct callee before after r in
+        let t = taken p facts.order m of h (arguments callee) f.stack vs (subst (λ (os : List Operand). PlainOperands p facts.order m of os) (sym (arguments_are callee)) (plain_all (reverse (map vtype callee.params)))) x.meet b.stack b.there in
+        args_took p facts.order m of h heap (After i) (λ c. tt) callee [] (drop (length (arguments callee)) f.stack) vs (subst (λ (os : List Operand). Taken p facts.order m of h os (drop (length (arguments callee)) f.stack) vs) (sym (append_none (arguments callee))) t)
+        (λ args below. on_receiver below (λ receiver rest. Asks id (receiver ∷ reverse args) next ls rest h))
+        (λ xs below e q. on_this callee (result_types callee.result) after _ x.fit below q (λ receiver rest. Asks id (receiver ∷ reverse xs) next ls rest h) (λ v rest d s.
+        record {
+          callee = callee;
+          there = there;
+          built_in = own;
+          arguments = subst (λ (z : Bool). have_types p callee of ((cond z [] (class_vtype callee.owner ∷ [])) ++ map vtype callee.params) (v ∷ reverse xs) ≡ true) (sym inst)
+              (and_from (has_type p callee of (class_vtype callee.owner) v) (have_types p callee of (map vtype callee.params) (reverse xs)) (this_is_object callee v d) (same_arguments p m callee of callee.params (reverse xs) e));
+          goes = subst (λ (z : Types). GoesOn p m of live (edges i next) z (result_awaited callee.result) next ls rest h) x.fit.after_is (constructed_goes x.fit.old x.fit.new x.fit.u x.fit.s rest callee.result x.fit.becomes s);
+          behind = refl;
+          same = refl;
+        }))
 
     -- ---- new objects
 

@@ -29,7 +29,7 @@ use Rattle.kilim_program.specs.declared.ty.Base.TheVariants as base
 use Rattle.kilim_program.specs.declared.ty.Ty.{Ty}
 use Rattle.kilim_program.specs.declared.verified.VType.TheVariants.{Int, Object}
 use Rattle.kilim_type_sound.proofs.Calls.{static_calls, static_native, virtual_calls, text_calls, special_calls}
-use Rattle.kilim_type_sound.proofs.Creation.{constructor_calls, constructor_built_in, construct_first}
+use Rattle.kilim_type_sound.proofs.Creation.{constructor_calls, constructor_asks, constructor_built_in, construct_first}
 use Rattle.kilim_type_sound.proofs.Rows.{Before, by_takes}
 
 is_not : (b : Bool) → not b ≡ true → b ≡ false
@@ -98,7 +98,25 @@ module _ (p : Program) (facts : Facts p) (m : Method) (of : Classes) (h : Object
     special_fit (Some callee) e r = by (is_constructor callee) refl r
       where
         by_own : (z : Bool) → callee.built_in ≡ z → is_constructor callee ≡ true → by_row p m at (special_by true p m id callee) f ≡ Ok g → Goal callee (z && (is_constructor callee && is_empty callee.params))
-        by_own true own con r = subst (λ (y : Bool). Goal callee y) (sym (and_from (is_constructor callee) (is_empty callee.params) con (ap is_empty (facts.constructors id callee e own con).0))) (constructor_built_in p facts m of h heap live at next f g ls vs i b w on id callee e own con (needs 8 (not callee.is_static && may_name m callee.is_private callee.owner) ∷ []) (needs 14 (not callee.is_abstract) ∷ []) r)
+        by_own true own con r = subst (λ (y : Bool). Goal callee y) (sym (ap (λ (y : Bool). y && is_empty callee.params) con)) (by_params (is_empty callee.params) refl)
+          where
+            itself : special p m callee id ≡ id
+            itself = ap (λ (y : Bool). cond (y || eqb callee.owner.0 m.owner.0) id (above_of p callee id (superclass_of (class_at p m.owner)))) con
+
+            none : (tys : List Ty) → is_empty tys ≡ true → tys ≡ []
+            none [] e = refl
+            none (ty ∷ tys) e = absurd (cc)
+
+            by_params : (y : Bool) → is_empty callee.params ≡ y → Goal callee y
+            by_params true empty =
+                constructor_built_in p facts m of h heap live at next f g ls vs i b w on id callee e own con (none callee.params empty) (needs 8 (not callee.is_static && may_name m callee.is_private callee.owner) ∷ []) (needs 14 (not callee.is_abstract) ∷ []) r
+            by_params false some =
+                let first = construct_first p facts m of h heap live at next f g ls vs i b w on callee (needs 8 (not callee.is_static && may_name m callee.is_private callee.owner) ∷ []) (needs 14 (not callee.is_abstract) ∷ []) r in
+                let inst = is_not callee.is_static (and_parts (not callee.is_static) (may_name m callee.is_private callee.owner) (and_parts (not callee.is_static && may_name m callee.is_private callee.owner) true first.0).0).0 in
+                subst (λ (q : MethodId). After i (on_values (length callee.params) vs (λ args below. on_receiver below (λ receiver rest. calls_method (method_at p q) q (receiver ∷ reverse args) next ls rest h)))) (sym itself)
+                (subst (λ (o : Option Method). After i (on_values (length callee.params) vs (λ args below. on_receiver below (λ receiver rest. calls_method o id (receiver ∷ reverse args) next ls rest h)))) (sym e)
+                (subst (λ (y : Bool). After i (on_values (length callee.params) vs (λ args below. on_receiver below (λ receiver rest. cond y (Asks id (receiver ∷ reverse args) next ls rest h) (Calls id (receiver ∷ reverse args) next ls rest h))))) (sym own)
+                (constructor_asks p facts m of h heap live at next f g ls vs i b w on id callee e own inst (needs 8 (not callee.is_static && may_name m callee.is_private callee.owner) ∷ []) (needs 14 (not callee.is_abstract) ∷ []) r)))
         by_own false own con r =
             let first = construct_first p facts m of h heap live at next f g ls vs i b w on callee (needs 8 (not callee.is_static && may_name m callee.is_private callee.owner) ∷ []) (needs 14 (not callee.is_abstract) ∷ []) r in
             let inst = is_not callee.is_static (and_parts (not callee.is_static) (may_name m callee.is_private callee.owner) (and_parts (not callee.is_static && may_name m callee.is_private callee.owner) true first.0).0).0 in

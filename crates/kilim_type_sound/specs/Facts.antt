@@ -11,8 +11,8 @@ use Rattle.kilim_program.specs.BuiltIn.{class_type, plain_type}
 use Rattle.kilim_program.specs.Names.{class_at, method_at, field_of, class_named, class_name}
 use Rattle.kilim_program.specs.Members.{object_fields}
 use Rattle.kilim_program.specs.Keeps.{constant_fits}
-use Rattle.std.specs.List.{list_any}
-use Rattle.kilim_program.specs.Same.{is_constructor}
+use Rattle.std.specs.List.{list_all, list_any}
+use Rattle.kilim_program.specs.Same.{is_constructor, same_qualifier}
 use Rattle.kilim_program.specs.Members.{named_type}
 use Rattle.kilim_run_machine.specs.Does.{chosen, special, is_mailbox, narrowed_int}
 use Rattle.kilim_run_machine.specs.Natives.{is_handed_out, is_text_method}
@@ -24,6 +24,7 @@ use Rattle.kilim_run_machine.specs.Raising.{array_index, is_throwable, other_ind
 use Rattle.kilim_program.specs.declared.class.Field.{Field}
 use Rattle.kilim_program.specs.declared.class.Method.{Method}
 use Rattle.kilim_program.specs.declared.names.FieldId.{FieldId}
+use Rattle.kilim_program.specs.declared.ty.Qualifier.TheVariants.{Cuttable, Safe}
 use Rattle.kilim_program.specs.declared.ty.Ty.{Ty}
 use Rattle.kilim_program.specs.Program.{Program}
 use Rattle.kilim_program.specs.Fits.{fits_type}
@@ -99,8 +100,9 @@ pub record Facts (p : Program) : Type 0 where
   pub bodies : (id : MethodId) (m : Method) → method_at p id ≡ Some m → m.built_in ≡ false → m.is_abstract ≡ false → has_code m ≡ true
   -- a static method isn't abstract
   pub statics : (id : MethodId) (m : Method) → method_at p id ≡ Some m → m.is_static ≡ true → m.is_abstract ≡ false
-  -- a built-in constructor takes and gives nothing
-  pub constructors : (id : MethodId) (m : Method) → method_at p id ≡ Some m → m.built_in ≡ true → is_constructor m ≡ true → (m.params ≡ []) × (m.result ≡ None)
+  -- a built-in constructor gives nothing, has a cuttable receiver, and is handed nothing to keep
+  pub constructors : (id : MethodId) (m : Method) → method_at p id ≡ Some m → m.built_in ≡ true → is_constructor m ≡ true →
+      (m.result ≡ None) × (m.receiver ≡ Cuttable) × (list_all (same_qualifier Safe) m.qualifiers ≡ true)
   -- a class of the mailbox's name is that one
   pub mailbox : (c : ClassId) → is_mailbox p c ≡ true → named_type p (codes "kilim/Mailbox") ≡ Some (class_type c.0)
   -- what a call on an object selects

@@ -1,5 +1,5 @@
 -- A call: the frame of the callee begins.
-use Rattle.std.proofs.Common.{◌≡◌, ℕ, zero, suc, ◌+◌, ◌<◌, ◌==◌, Bool, true, false, true≢false, ◌&&◌, ◌||◌, cond, List, [], ◌∷◌, ◌++◌, map, length, Option, Some, None, refl, sym, ap, subst, ◌∙◌, inr, arith}
+use Rattle.std.proofs.Common.{◌≡◌, ℕ, zero, suc, ◌+◌, ◌<◌, ◌==◌, Bool, true, false, true≢false, ◌&&◌, ◌||◌, cond, List, [], ◌∷◌, ◌++◌, map, length, Option, Some, None, refl, sym, ap, subst, ◌∙◌, ◌⊎◌, inl, inr, arith}
 use Rattle.std.specs.List.{list_any}
 use Rattle.std.specs.Prelude.{replicate, drop, ◌-◌}
 use Rattle.kilim_program.specs.declared.ty.Kind.TheVariants as kind
@@ -35,8 +35,8 @@ use Rattle.kilim_isolation_graph.specs.declared.graph.Graph.{Graph}
 use Rattle.kilim_isolation_graph.specs.Graphs.{slot, popped}
 use Rattle.kilim_isolation_graph.specs.Nodes.{listed, is_root}
 use Rattle.kilim_isolation_rules.specs.declared.deed.Passed.{Passed}
-use Rattle.kilim_isolation_graph.specs.Entry.{parameters_of, declared_parameters, quality_from, tree_name, name_slots, entry_names, entry_nodes}
-use Rattle.kilim_isolation_laws.proofs.graph_rows.Passing.{IsAfter, after_is, behind, called, passed_at, quality_at}
+use Rattle.kilim_isolation_graph.specs.Entry.{parameters_of, declared_parameters, quality, quality_from, tree_name, name_slots, entry_names, entry_nodes}
+use Rattle.kilim_isolation_laws.proofs.graph_rows.Passing.{IsAfter, Weaker, after_is, behind, called, passed_at, quality_at}
 use Rattle.kilim_isolation_rules.specs.Marks.{names_no_root, names_safe}
 use Rattle.kilim_isolation_graph.specs.declared.entry.Parameter.{Parameter}
 use Rattle.kilim_isolation_laws.specs.graph_rows.Holds.{Sort, Anything, Wide, Word, Own, Tree, sort, object_sort, type_sort, sort_of_vtype, Fits, unnamed, named_sort, refers, SlotFits, AreSlots, SlotsFit, named_by, value_at, Waiting, waiting_named, WaitFits, AllWait, Holds, Stands, trees}
@@ -105,16 +105,41 @@ abbrev pub value_by : (ℕ → Option ℕ) → Option ℕ → Option ℕ
 value_by at None = None
 value_by at (Some n) = at n
 
-same_quality : (p : Program) (h : Objects) (u : Named) (count : ℕ) (args : List Passed) (vs : List Value) (qs : List Parameter) → ArgsFit p h u count args vs qs → (k : ℕ) → quality_from p qs k ≡ quality_at p args k
-same_quality p h u count [] [] [] f k = refl
-same_quality p h u count (a ∷ args) (v ∷ vs) (q ∷ qs) f zero = f.2
-same_quality p h u count (a ∷ args) (v ∷ vs) (q ∷ qs) f (suc k) = same_quality p h u count args vs qs f.3 k
-same_quality p h u count [] [] (q ∷ qs) f k = absurd f
-same_quality p h u count [] (v ∷ vs) qs f k = absurd f
-same_quality p h u count (a ∷ args) [] qs f k = absurd f
-same_quality p h u count (a ∷ args) (v ∷ vs) [] f k = absurd f
+-- what the callee knows of an argument: what it is passed as, or nothing, where a constructor's class is no tree
+abbrev pub Knows : Option Rattle.kilim_program.specs.declared.ty.Qualifier.Qualifier → Option Rattle.kilim_program.specs.declared.ty.Qualifier.Qualifier → Type 0
+Knows known passed = (known ≡ passed) ⊎ (known ≡ None)
 
-argument_lives : (p : Program) (h : Objects) (u : Named) (count : ℕ) (args : List Passed) (vs : List Value) (qs : List Parameter) → ArgsFit p h u count args vs qs → (k n : ℕ) → passed_at args k ≡ Some n → is_gone (u.node n).standing ≡ false
+abbrev pub ArgsMeet : Program → Objects → Named → ℕ → List Passed → List Value → List Parameter → Type 0
+ArgsMeet p h u count [] [] [] = Unit {0}
+ArgsMeet p h u count (a ∷ args) (v ∷ vs) (q ∷ qs) = SlotFits p h u count (type_sort p q.ty) a.name v × ((n : ℕ) → a.name ≡ Some n → is_gone (u.node n).standing ≡ false) × Knows (quality p q.ty q.qualifier) (quality_in p a) × ArgsMeet p h u count args vs qs
+ArgsMeet p h u count args vs qs = ⊥
+
+pub meet : (p : Program) (h : Objects) (u : Named) (count : ℕ) (args : List Passed) (vs : List Value) (qs : List Parameter) → ArgsFit p h u count args vs qs → ArgsMeet p h u count args vs qs
+meet p h u count [] [] [] f = tt
+meet p h u count (a ∷ args) (v ∷ vs) (q ∷ qs) f = (f.0, f.1, inl f.2, meet p h u count args vs qs f.3)
+meet p h u count [] [] (q ∷ qs) f = absurd f
+meet p h u count [] (v ∷ vs) qs f = absurd f
+meet p h u count (a ∷ args) [] qs f = absurd f
+meet p h u count (a ∷ args) (v ∷ vs) [] f = absurd f
+
+known_is : (known passed : Option Rattle.kilim_program.specs.declared.ty.Qualifier.Qualifier) → Knows known passed → is_owned known ≡ true → passed ≡ known
+known_is known passed (inl same) owned = sym same
+known_is known passed (inr none) owned = absurd (true≢false (sym owned ∙ ap is_owned none))
+
+weaker_is : (p : Program) (h : Objects) (u : Named) (count : ℕ) (args : List Passed) (vs : List Value) (qs : List Parameter) → ArgsMeet p h u count args vs qs → Weaker (quality_from p qs) (quality_at p args)
+weaker_is p h u count [] [] [] f k owned = refl
+weaker_is p h u count (a ∷ args) (v ∷ vs) (q ∷ qs) f zero owned = known_is (quality p q.ty q.qualifier) (quality_in p a) f.2 owned
+weaker_is p h u count (a ∷ args) (v ∷ vs) (q ∷ qs) f (suc k) owned = weaker_is p h u count args vs qs f.3 k owned
+weaker_is p h u count [] [] (q ∷ qs) f k owned = absurd f
+weaker_is p h u count [] (v ∷ vs) qs f k owned = absurd f
+weaker_is p h u count (a ∷ args) [] qs f k owned = absurd f
+weaker_is p h u count (a ∷ args) (v ∷ vs) [] f k owned = absurd f
+
+-- no argument is gone
+abbrev pub PassedLive : Named → List Passed → Type 0
+PassedLive u args = (k n : ℕ) → passed_at args k ≡ Some n → is_gone (u.node n).standing ≡ false
+
+pub argument_lives : (p : Program) (h : Objects) (u : Named) (count : ℕ) (args : List Passed) (vs : List Value) (qs : List Parameter) → ArgsMeet p h u count args vs qs → (k n : ℕ) → passed_at args k ≡ Some n → is_gone (u.node n).standing ≡ false
 argument_lives p h u count [] [] [] f k n e = absurd (cc)
 argument_lives p h u count (a ∷ args) (v ∷ vs) (q ∷ qs) f zero n e = f.1 n e
 argument_lives p h u count (a ∷ args) (v ∷ vs) (q ∷ qs) f (suc k) n e = argument_lives p h u count args vs qs f.3 k n e
@@ -150,46 +175,58 @@ entry_tidy qual = record {
     of_free : (n : ℕ) (q : Qualifier) → q ≡ Some qualifier.Free → (entry_node q n).head ≡ true
     of_free n q e = ap (λ z. (entry_node z n).head) e
 
-module _ (p : Program) (m : Method) (f : Types) (g : Graph) (at : ℕ → Option ℕ) (h : Objects) (ls st : List Value) (below : List Waiting) (hd : Stands p m f g at h ls st below) (args : List Passed) (vs : List Value) (callee : Method)
-    (fits : ArgsFit p h (named_by g at) (length g.nodes) args vs (parameters_of callee))
+-- a call that no rule refuses, with what the callee knows of its arguments
+by_rules : (p : Program) (g : Graph) (at : ℕ → Option ℕ) (args : List Passed) → PassedLive (named_by g at) args → list_any (λ a. is_free (quality_in p a) && names_no_root g a.name) args ≡ false → any_two (shares p g) args ≡ false →
+    list_any (λ a. is_cuttable (quality_in p a) && names_safe g a.name) args ≡ false → (inside : ℕ → Qualifier) → Weaker inside (quality_at p args) →
+    IsCall (named_by g at) (length args) inside (passed_at args) (λ k. value_by at (passed_at args k))
+by_rules p g at args live i1 i5 i7 inside weaker = record {
+  slots = λ k n e. (ap (value_by at) e, live k n e);
+  none = λ k e. ap (value_by at) e;
+  free = λ k n q e. free_root p g args i1 k n (weaker k (ap is_owned q) ∙ q) e;
+  cuttable = λ k n q e. cuttable_changes p g args i7 k n (weaker k (ap is_owned q) ∙ q) e;
+  apart = λ j k n o differ en em same.
+      let w = arguments_apart p g args i5 j k n o differ en em same in
+      (less_owned j w.0, less_owned k w.1);
+  within = λ k e. quality_within p g args k (ap is_owned (weaker k e) ∙ e);
+}
+  where
+    less_owned : (k : ℕ) → is_owned (quality_at p args k) ≡ false → is_owned (inside k) ≡ false
+    less_owned k e = not_true (is_owned (inside k)) (λ owned. true≢false (sym owned ∙ (ap is_owned (sym (weaker k owned)) ∙ e)))
+      where
+        not_true : (b : Bool) → (b ≡ true → ⊥) → b ≡ false
+        not_true true never = absurd (never refl)
+        not_true false never = refl
+
+-- ---- what is left of the caller
+
+module _ (p : Program) (m : Method) (f : Types) (g : Graph) (at : ℕ → Option ℕ) (h : Objects) (ls st : List Value) (below : List Waiting) (hd : Stands p m f g at h ls st below) (args : List Passed)
+    (live : PassedLive (named_by g at) args)
     (i1 : list_any (λ a. is_free (quality_in p a) && names_no_root g a.name) args ≡ false) (i5 : any_two (shares p g) args ≡ false)
     (i7 : list_any (λ a. is_cuttable (quality_in p a) && names_safe g a.name) args ≡ false) where
   abbrev u : Named
   u = named_by g at
 
-  abbrev qual : ℕ → Qualifier
-  qual k = quality_at p args k
-
-  abbrev arg : ℕ → Option ℕ
-  arg k = passed_at args k
-
   abbrev pub value : ℕ → Option ℕ
   value k = value_by at (passed_at args k)
-
-  is_call : IsCall (named_by g at) (length args) (quality_at p args) (passed_at args) (λ k. value_by at (passed_at args k))
-  is_call = record {
-    slots = λ k n e. (ap (value_by at) e, argument_lives p h u (length g.nodes) args vs (parameters_of callee) fits k n e);
-    none = λ k e. ap (value_by at) e;
-    free = λ k n q e. free_root p g args i1 k n q e;
-    cuttable = λ k n q e. cuttable_changes p g args i7 k n q e;
-    apart = λ j k n o differ en em same. arguments_apart p g args i5 j k n o differ en em same;
-    within = λ k e. quality_within p g args k e;
-  }
-
-  abbrev entry_named : Named
-  entry_named = record { node = λ k. entry_node (quality_at p args k) k; at = λ k. value_by at (passed_at args k) }
-
-  abbrev after_node : ℕ → Node
-  after_node n = after_arguments (length g.nodes) (node_at g.nodes) (arguments p args) n
 
   abbrev after_named : Named
   after_named = record { node = after_arguments (length g.nodes) (node_at g.nodes) (arguments p args); at = at }
 
-  frames : Frames IsPlace (trees p h) (entry_named ∷ after_named ∷ map waiting_named below)
-  frames = called IsPlace (trees p h) u (map waiting_named below) hd.holds.forest hd.holds.frames hd.tidy (length g.nodes) p args (λ k. value_by at (passed_at args k)) is_call
+  module _ (inside : ℕ → Qualifier) (weaker : Weaker inside (quality_at p args)) where
+    is_call : IsCall (named_by g at) (length args) inside (passed_at args) (λ k. value_by at (passed_at args k))
+    is_call = by_rules p g at args live i1 i5 i7 inside weaker
 
-  less : IsLess (named_by g at) after_named
-  less = (behind IsPlace (trees p h) u (map waiting_named below) hd.holds.forest hd.holds.frames hd.tidy (length g.nodes) p args (λ k. value_by at (passed_at args k)) is_call).0
+    frames : Frames IsPlace (trees p h) (record { node = λ k. entry_node (inside k) k; at = λ k. value_by at (passed_at args k) } ∷ after_named ∷ map waiting_named below)
+    frames = called IsPlace (trees p h) u (map waiting_named below) hd.holds.forest hd.holds.frames hd.tidy (length g.nodes) p args inside weaker (λ k. value_by at (passed_at args k)) is_call
+
+    less : IsLess (named_by g at) after_named
+    less = (behind IsPlace (trees p h) u (map waiting_named below) hd.holds.forest hd.holds.frames hd.tidy (length g.nodes) p args inside weaker (λ k. value_by at (passed_at args k)) is_call).0
+
+    pub began : Frames IsPlace (trees p h) (record { node = λ k. entry_node (inside k) k; at = λ k. value_by at (passed_at args k) } ∷ named_by (after_call p args g) at ∷ map waiting_named below)
+    began = same_second (trees p h) (record { node = λ k. entry_node (inside k) k; at = λ k. value_by at (passed_at args k) }) after_named (named_by (after_call p args g) at) (map waiting_named below) after_same frames
+      where
+        after_same : HasSameLive after_named (named_by (after_call p args g) at)
+        after_same = record { node = λ n live. (after_is (arguments p args) g).nodes n; at = λ n live. refl }
 
   abbrev pub after_graph : Graph
   after_graph = after_call p args g
@@ -197,32 +234,14 @@ module _ (p : Program) (m : Method) (f : Types) (g : Graph) (at : ℕ → Option
   pub is_after : IsAfter g (arguments p args)
   is_after = after_is (arguments p args) g
 
-  after_same : HasSameLive after_named (named_by after_graph at)
-  after_same = record { node = λ n live. is_after.nodes n; at = λ n live. refl }
-
-  abbrev params : List Parameter
-  params = parameters_of callee
-
-  entry_same : HasSameLive entry_named (record { node = node_at (entry_nodes p callee).nodes; at = λ k. value_by at (passed_at args k) })
-  unfolding entry_nodes
-  entry_same = record {
-    node = λ n live. (listed_live (λ k. entry_node (quality_from p params k) k) (length params) n live).1 ∙ ap (λ z. entry_node z n) (same_quality p h u (length g.nodes) args vs params fits n);
-    at = λ n live. refl;
-  }
-
-  pub call_frames : Frames IsPlace (trees p h) (record { node = node_at (entry_nodes p callee).nodes; at = λ k. value_by at (passed_at args k) } ∷ named_by after_graph at ∷ map waiting_named below)
-  call_frames = same_frames IsPlace (trees p h) entry_named (record { node = node_at (entry_nodes p callee).nodes; at = λ k. value_by at (passed_at args k) }) entry_same (named_by after_graph at ∷ map waiting_named below)
-      (same_second (trees p h) entry_named after_named (named_by after_graph at) (map waiting_named below) after_same frames)
+  less_here : IsLess (named_by g at) after_named
+  less_here = less (quality_at p args) (λ k e. refl)
 
   pub after_tidy : IsNearly_tidy (node_at after_graph.nodes)
-  after_tidy = same_tidy (after_arguments (length g.nodes) (node_at g.nodes) (arguments p args)) (node_at after_graph.nodes) (λ n. inr (is_after.nodes n)) (less_tidy u after_named less hd.holds.tidy)
+  after_tidy = same_tidy (after_arguments (length g.nodes) (node_at g.nodes) (arguments p args)) (node_at after_graph.nodes) (λ n. inr (is_after.nodes n)) (less_tidy u after_named less_here hd.holds.tidy)
 
   pub after_within : (n k : ℕ) (l : Label) → (node_at after_graph.nodes k).parent ≡ Some (n, l) → n < length after_graph.nodes
-  after_within n k l e = subst (λ c. n < c) (sym is_after.count) (live_within g.nodes n (hd.tidy.live n k l (less.edges n k l (ap (λ z. z.parent) (sym (is_after.nodes k)) ∙ e))).0)
-
-  pub entry_is_tidy : IsNearly_tidy (node_at (entry_nodes p callee).nodes)
-  unfolding entry_nodes
-  entry_is_tidy = same_tidy (λ k. entry_node (quality_from p params k) k) (node_at (entry_nodes p callee).nodes) (listed_each (λ k. entry_node (quality_from p params k) k) (length params)) (entry_tidy (quality_from p params))
+  after_within n k l e = subst (λ c. n < c) (sym is_after.count) (live_within g.nodes n (hd.tidy.live n k l (less_here.edges n k l (ap (λ z. z.parent) (sym (is_after.nodes k)) ∙ e))).0)
 
   -- the caller's slots
   pub caller_slots : (k : ℕ) (rest : List Value) → AreSlots p m h (named_by g at) (length g.nodes) (drop k f.stack) (drop k g.stack) rest →
@@ -240,18 +259,48 @@ module _ (p : Program) (m : Method) (f : Types) (g : Graph) (at : ℕ → Option
       after_lives : (n : ℕ) → n < length g.nodes → is_gone (node_at after_graph.nodes n).standing ≡ false → is_gone (node_at g.nodes n).standing ≡ false
       after_lives n lt live =
           let a = ap (λ z. is_gone z.standing) (sym (is_after.nodes n)) ∙ live in
-          ap is_gone (sym (less.standing n a)) ∙ a
+          ap is_gone (sym (less_here.standing n a)) ∙ a
 
   -- the caller, with its graph after the arguments
   pub caller_holds : (k : ℕ) (rest : List Value) → AreSlots p m h (named_by g at) (length g.nodes) (drop k f.stack) (drop k g.stack) rest → Holds p m (record f { stack = drop k f.stack }) (popped k after_graph) at h ls rest below
   caller_holds k rest s = record {
     heap = hd.holds.heap;
     forest = hd.holds.forest;
-    frames = call_frames.2;
+    frames = (began (quality_at p args) (λ k e. refl)).2;
     tidy = after_tidy;
     slots = caller_slots k rest s;
     waits = hd.holds.waits;
   }
+
+-- ---- the callee's graph
+
+module _ (p : Program) (m : Method) (f : Types) (g : Graph) (at : ℕ → Option ℕ) (h : Objects) (ls st : List Value) (below : List Waiting) (hd : Stands p m f g at h ls st below) (args : List Passed) (vs : List Value) (callee : Method)
+    (fits : ArgsMeet p h (named_by g at) (length g.nodes) args vs (parameters_of callee))
+    (i1 : list_any (λ a. is_free (quality_in p a) && names_no_root g a.name) args ≡ false) (i5 : any_two (shares p g) args ≡ false)
+    (i7 : list_any (λ a. is_cuttable (quality_in p a) && names_safe g a.name) args ≡ false) where
+  abbrev params : List Parameter
+  params = parameters_of callee
+
+  pub args_live : PassedLive (named_by g at) args
+  args_live = argument_lives p h (named_by g at) (length g.nodes) args vs params fits
+
+  abbrev entry_named : Named
+  entry_named = record { node = λ k. entry_node (quality_from p params k) k; at = λ k. value_by at (passed_at args k) }
+
+  entry_same : HasSameLive entry_named (record { node = node_at (entry_nodes p callee).nodes; at = λ k. value_by at (passed_at args k) })
+  unfolding entry_nodes
+  entry_same = record {
+    node = λ n live. (listed_live (λ k. entry_node (quality_from p params k) k) (length params) n live).1;
+    at = λ n live. refl;
+  }
+
+  pub call_frames : Frames IsPlace (trees p h) (record { node = node_at (entry_nodes p callee).nodes; at = λ k. value_by at (passed_at args k) } ∷ named_by (after_call p args g) at ∷ map waiting_named below)
+  call_frames = same_frames IsPlace (trees p h) entry_named (record { node = node_at (entry_nodes p callee).nodes; at = λ k. value_by at (passed_at args k) }) entry_same (named_by (after_call p args g) at ∷ map waiting_named below)
+      (began p m f g at h ls st below hd args args_live i1 i5 i7 (quality_from p params) (weaker_is p h (named_by g at) (length g.nodes) args vs params fits))
+
+  pub entry_is_tidy : IsNearly_tidy (node_at (entry_nodes p callee).nodes)
+  unfolding entry_nodes
+  entry_is_tidy = same_tidy (λ k. entry_node (quality_from p params k) k) (node_at (entry_nodes p callee).nodes) (listed_each (λ k. entry_node (quality_from p params k) k) (length params)) (entry_tidy (quality_from p params))
 
 -- ---- the callee's locals
 
@@ -347,7 +396,7 @@ module _ (p : Program) (h : Objects) (u : Named) (count : ℕ) (callee : Method)
         (λ live. subst (λ z. Fits p h (named_sort z) v) (sym (slot_sort p callee q.ty ∙ (tree_sort p q.ty e).2)) (subst (λ z. Fits p h z v) (tree_sort p q.ty e).2 fits)),
       )
 
-  rest_slots : (args : List Passed) (vs : List Value) (qs : List Parameter) (n spare : ℕ) → ArgsFit p h u count args vs qs → n + length args ≡ total → ((k : ℕ) → value (n + k) ≡ value_by u.at (passed_at args k)) → (j : ℕ) →
+  rest_slots : (args : List Passed) (vs : List Value) (qs : List Parameter) (n spare : ℕ) → ArgsMeet p h u count args vs qs → n + length args ≡ total → ((k : ℕ) → value (n + k) ≡ value_by u.at (passed_at args k)) → (j : ℕ) →
       SlotFits p h (record { node = node; at = value }) total (sort p callee (peek (types_of qs) j)) (slot (entry_names p qs n) j) (value_at (slots_of vs ++ replicate spare Null) j)
   rest_slots [] [] [] n spare f size is j = top_slot (value_at (replicate spare Null) j)
   rest_slots (a ∷ args) (v ∷ vs) (q ∷ qs) n spare f size is j = by (declared_is q.ty) (rest_slots args vs qs (suc n) spare f.3 (omega arith) later)
@@ -438,7 +487,7 @@ entry_sort p callee sized j = by callee.is_static (is_constructor callee)
     by true c = ap (λ z. sort p callee (peek z j)) (declared_types callee.params callee.qualifiers sized)
     by false c = of_this c j
 
-same_length : (p : Program) (h : Objects) (u : Named) (count : ℕ) (args : List Passed) (vs : List Value) (qs : List Parameter) → ArgsFit p h u count args vs qs → length args ≡ length qs
+same_length : (p : Program) (h : Objects) (u : Named) (count : ℕ) (args : List Passed) (vs : List Value) (qs : List Parameter) → ArgsMeet p h u count args vs qs → length args ≡ length qs
 same_length p h u count [] [] [] f = refl
 same_length p h u count (a ∷ args) (v ∷ vs) (q ∷ qs) f = ap suc (same_length p h u count args vs qs f.3)
 same_length p h u count [] [] (q ∷ qs) f = absurd f
@@ -447,7 +496,7 @@ same_length p h u count (a ∷ args) [] qs f = absurd f
 same_length p h u count (a ∷ args) (v ∷ vs) [] f = absurd f
 
 module _ (p : Program) (m : Method) (f : Types) (g : Graph) (at : ℕ → Option ℕ) (h : Objects) (ls st : List Value) (below : List Waiting) (hd : Stands p m f g at h ls st below) (args : List Passed) (vs : List Value) (callee : Method)
-    (fits : ArgsFit p h (named_by g at) (length g.nodes) args vs (parameters_of callee))
+    (fits : ArgsMeet p h (named_by g at) (length g.nodes) args vs (parameters_of callee))
     (i1 : list_any (λ a. is_free (quality_in p a) && names_no_root g a.name) args ≡ false) (i5 : any_two (shares p g) args ≡ false)
     (i7 : list_any (λ a. is_cuttable (quality_in p a) && names_safe g a.name) args ≡ false) (sized : length callee.qualifiers ≡ length callee.params) where
   abbrev pub waiting : Types → ℕ → List Value → Waiting
@@ -456,8 +505,8 @@ module _ (p : Program) (m : Method) (f : Types) (g : Graph) (at : ℕ → Option
   pub caller_waits : (types : Types) (k : ℕ) (rest : List Value) → SlotsFit p m types (popped k (after_call p args g)) at h ls rest → WaitFits p h (waiting types k rest)
   caller_waits types k rest s = record {
     slots = s;
-    tidy = after_tidy p m f g at h ls st below hd args vs callee fits i1 i5 i7;
-    within = after_within p m f g at h ls st below hd args vs callee fits i1 i5 i7;
+    tidy = after_tidy p m f g at h ls st below hd args (args_live p m f g at h ls st below hd args vs callee fits i1 i5 i7) i1 i5 i7;
+    within = after_within p m f g at h ls st below hd args (args_live p m f g at h ls st below hd args vs callee fits i1 i5 i7) i1 i5 i7;
   }
 
   pub call_begins : (types : Types) (k spare : ℕ) (rest : List Value) → SlotsFit p m types (popped k (after_call p args g)) at h ls rest →
@@ -508,25 +557,24 @@ module _ (p : Program) (m : Method) (f : Types) (g : Graph) (at : ℕ → Option
     entered = call_begins types k (Rattle.kilim_run_machine.specs.Moves.slots_in (method_at p id) - length (slots_of vs)) rest s;
   }
 
-  pub native_holds : (id : MethodId) (k : ℕ) (rest : List Value) (f1 : Types) (g1 : Graph) → method_at p id ≡ Some callee → AreSlots p m h (named_by g at) (length g.nodes) (drop k f.stack) (drop k g.stack) rest →
+  pub native_holds : ArgsFit p h (named_by g at) (length g.nodes) args vs (parameters_of callee) → (id : MethodId) (k : ℕ) (rest : List Value) (f1 : Types) (g1 : Graph) → method_at p id ≡ Some callee → AreSlots p m h (named_by g at) (length g.nodes) (drop k f.stack) (drop k g.stack) rest →
       f1 ≡ record f { stack = type.result_types callee.result ++ drop k f.stack } → g1 ≡ given_result p callee.result (popped k (after_call p args g)) → (raised : Graph) → raised ≡ handler_graph (after_call p args g) → NativeHolds p m f1 g1 f raised h id vs ls rest below
-  native_holds id k rest f1 g1 is s shape graph raised raised_is = record {
+  native_holds all id k rest f1 g1 is s shape graph raised raised_is = record {
     raised_is = raised_is;
-    before = refl;
+    sorts = λ j. refl;
     callee = callee;
     is = is;
     types = f;
+    kept = record f { stack = drop k f.stack };
     graph = g;
     at = at;
     values = st;
     stands = hd;
     passed = args;
-    fits = fits;
-    not_free = i1;
     takes = k;
-    rest = s;
+    hands = inl (record { kept_is = refl; fits = all; not_free = i1; rest = s });
     after = shape;
     left = graph;
-    waits = caller_waits (record f { stack = drop k f.stack }) k rest (caller_slots p m f g at h ls st below hd args vs callee fits i1 i5 i7 k rest s);
+    waits = caller_waits (record f { stack = drop k f.stack }) k rest (caller_slots p m f g at h ls st below hd args (args_live p m f g at h ls st below hd args vs callee fits i1 i5 i7) i1 i5 i7 k rest s);
     frames = (call_frames p m f g at h ls st below hd args vs callee fits i1 i5 i7).2;
   }

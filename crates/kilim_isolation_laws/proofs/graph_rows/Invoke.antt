@@ -13,7 +13,7 @@ use Rattle.kilim_program.specs.declared.verified.VType.TheVariants as vtype
 use Rattle.kilim_program.specs.declared.verified.VType.{VType}
 use Rattle.kilim_isolation_laws.specs.forest.Canonical.{node_at}
 use Rattle.kilim_isolation_laws.specs.forest.Relation.{is_gone}
-use Rattle.kilim_isolation_laws.proofs.graph_rows.Calling.{call_holds, caller_holds, caller_slots, native_holds}
+use Rattle.kilim_isolation_laws.proofs.graph_rows.Calling.{ArgsMeet, Knows, PassedLive, argument_lives, call_holds, caller_holds, caller_slots, meet, native_holds}
 use Rattle.kilim_isolation_laws.proofs.graph_rows.Invoking.{params_fit, arguments_are}
 use Rattle.kilim_isolation_laws.proofs.graph_rows.Passed.{moves_passed, IsPassed}
 use Rattle.kilim_isolation_laws.proofs.graph_rows.Plain.{IsStep, E, dropped}
@@ -34,12 +34,12 @@ use Rattle.kilim_isolation_graph.specs.Entry.{quality, parameters_of, declared_p
 use Rattle.kilim_isolation_graph.specs.Graphs.{slot, popped, push}
 use Rattle.kilim_isolation_graph.specs.declared.graph.Graph.{Graph}
 use Rattle.kilim_type_spec.specs.Step as type
-use Rattle.kilim_program.specs.Kinds.{kind_of}
+use Rattle.kilim_program.specs.Kinds.{is_tree_kind, kind_of}
 use Rattle.kilim_program.specs.declared.ty.Kind.TheVariants as kind
 use Rattle.kilim_program.specs.declared.value.Value.TheVariants.{Int}
 use Rattle.kilim_type_spec.specs.Typed.{Among, edges}
 use Rattle.kilim_type_spec.specs.Step.{Types, peek, assignable, Operand, Is, meets, all_meet, arguments, class_vtype, by_row, row, type_step, virtual_row, virtual_rules, result_types, missing}
-use Rattle.std.proofs.Common.{◌≡◌, ℕ, ℤ, zero, suc, ◌+◌, true, false, true≢false, not, ◌&&◌, cond, List, [], ◌∷◌, ◌++◌, map, length, reverse, Option, Some, None, refl, sym, ap, subst, ◌∙◌, arith}
+use Rattle.std.proofs.Common.{◌≡◌, ℕ, ℤ, zero, suc, ◌+◌, Bool, true, false, true≢false, not, ◌&&◌, cond, List, [], ◌∷◌, ◌++◌, map, length, reverse, Option, Some, None, refl, sym, ap, subst, ◌∙◌, inl, inr, arith}
 use Rattle.std.proofs.lemmas.List.{length-reverse}
 use Rattle.std.specs.List.{list_any}
 use Rattle.std.specs.Prelude.{drop, take, slice_get}
@@ -100,18 +100,24 @@ module _ (p : Program) (k : ProgramKeeps p) (m : Method) (pl to : ℕ) (f f1 : T
   pub lives : (j n : ℕ) → slot g.stack j ≡ Some n → is_gone (node_at g.nodes n).standing ≡ false
   lives j n x = slot_lives g g.stack (not_true (list_any (names_gone g) g.stack) s.0.live) j n x
 
+  met_by : (callee : Method) (vals : List Value) → ArgsFit p h (named_by g at) (length g.nodes) (all_passed named g f.stack) vals (parameters_of callee) → ArgsMeet p h (named_by g at) (length g.nodes) (all_passed named g f.stack) vals (parameters_of callee)
+  met_by callee vals fits = meet p h (named_by g at) (length g.nodes) (all_passed named g f.stack) vals (parameters_of callee) fits
+
+  live_by : (callee : Method) (vals : List Value) → ArgsFit p h (named_by g at) (length g.nodes) (all_passed named g f.stack) vals (parameters_of callee) → PassedLive (named_by g at) (all_passed named g f.stack)
+  live_by callee vals fits = argument_lives p h (named_by g at) (length g.nodes) (all_passed named g f.stack) vals (parameters_of callee) (met_by callee vals fits)
+
   -- the method that runs begins, or is asked for
   pub call_left : (callee : Method) (run : MethodId) → method_at p run ≡ Some callee → (vals : List Value) → ArgsFit p h (named_by g at) (length g.nodes) (all_passed named g f.stack) vals (parameters_of callee) →
       length callee.qualifiers ≡ length callee.params → callee.result ≡ named.result → (rest : List Value) →
       AreSlots p m h (named_by g at) (length g.nodes) (drop (takes_from named) f.stack) (drop (takes_from named) g.stack) rest → f1 ≡ record f { stack = result_types named.result ++ drop (takes_from named) f.stack } →
       E p m pl to f f1 g g1 at h ls st below after i (calls_method (Some callee) run vals to ls rest h)
   call_left callee run found vals fits size result rest slots types = cond_h (E p m pl to f f1 g g1 at h ls st below after i) tt (λ c. tt) (λ c. tt) callee.built_in _ _
-      (λ built. (edge, refl, native_holds p m f g at h ls st below s.0 (all_passed named g f.stack) vals callee fits free shared cuttable size run (takes_from named) rest f1 g1 found slots types_are graph_is (raised_deed p g f i).graph raised_is))
+      (λ built. (edge, refl, native_holds p m f g at h ls st below s.0 (all_passed named g f.stack) vals callee (met_by callee vals fits) free shared cuttable size fits run (takes_from named) rest f1 g1 found slots types_are graph_is (raised_deed p g f i).graph raised_is))
       (λ own. (
         edge,
         refl,
-        call_holds p m f g at h ls st below s.0 (all_passed named g f.stack) vals callee fits free shared cuttable size run (record f { stack = drop (takes_from named) f.stack }) (takes_from named) rest f1 g1 found
-            (caller_slots p m f g at h ls st below s.0 (all_passed named g f.stack) vals callee fits free shared cuttable (takes_from named) rest slots) types_are graph_is (raised_deed p g f i).graph raised_is (λ j. refl),
+        call_holds p m f g at h ls st below s.0 (all_passed named g f.stack) vals callee (met_by callee vals fits) free shared cuttable size run (record f { stack = drop (takes_from named) f.stack }) (takes_from named) rest f1 g1 found
+            (caller_slots p m f g at h ls st below s.0 (all_passed named g f.stack) (live_by callee vals fits) free shared cuttable (takes_from named) rest slots) types_are graph_is (raised_deed p g f i).graph raised_is (λ j. refl),
       ))
     where
       types_are : f1 ≡ record f { stack = result_types callee.result ++ drop (takes_from named) f.stack }
@@ -126,7 +132,7 @@ module _ (p : Program) (k : ProgramKeeps p) (m : Method) (pl to : ℕ) (f f1 : T
       (ty : Ty) → named.result ≡ Some ty → type.vtype ty ≡ vtype.Int → kind_of p ty ≡ kind.Value → (x : ℤ) → Left p m f1 g1 h ls (Int x ∷ rest) below
   unfolding sort
   answered callee vals fits rest slots types ty result int value x =
-      let hd = caller_holds p m f g at h ls st below s.0 (all_passed named g f.stack) vals callee fits free shared cuttable (takes_from named) rest slots in
+      let hd = caller_holds p m f g at h ls st below s.0 (all_passed named g f.stack) (live_by callee vals fits) free shared cuttable (takes_from named) rest slots in
       let after_graph = popped (takes_from named) (after_call p (all_passed named g f.stack) g) in (
         at,
         subst (λ z. Holds p m z g1 at h ls (Int x ∷ rest) below) (sym (types ∙ ap (λ z. record f { stack = result_types z ++ drop (takes_from named) f.stack }) result))
@@ -162,19 +168,53 @@ module _ (p : Program) (k : ProgramKeeps p) (m : Method) (pl to : ℕ) (f f1 : T
     rest_on_stack = subst (λ z. AreSlots p m h (named_by g at) (length g.nodes) (drop (takes_from named) f.stack) (drop (takes_from named) g.stack) z) (drop_past vs r rest (takes_from named) (ap (λ j. j + 1) size ∙ sym takes_is))
         (dropped p m h (named_by g at) (length g.nodes) (takes_from named) f.stack g.stack (vs ++ r ∷ rest) on_stack)
 
+    -- the arguments behind the receiver
+    params_here : (more : List Operand) → all_meet p (arguments named ++ more) f.stack ≡ true → ArgsFit p h (named_by g at) (length g.nodes) params (reverse vs) (declared_parameters named.params named.qualifiers)
+    params_here more meets_all = params_fit p m h (named_by g at) (length g.nodes) k.flow named more f.stack g.stack vs (r ∷ rest) meets_all on_stack size (λ j n x. lives j n x) sized
+        (or_right (not (is_constructor named) && mixes p (peek f.stack (length named.params)) (vtype.Object (class_type named.owner.0))) _ mixed_here)
+
+    abbrev here : Passed
+    here = receiver named (slot g.stack (length named.params)) (peek f.stack (length named.params))
+
     -- all arguments fit a method with these parameters, where the receiver does
     pub all_fit : (more : List Operand) → all_meet p (arguments named ++ more) f.stack ≡ true → (callee : Method) → parameters_of callee ≡ record { ty = class_type callee.owner.0; qualifier = callee.receiver } ∷ declared_parameters named.params named.qualifiers →
         SlotFits p h (named_by g at) (length g.nodes) (type_sort p (class_type callee.owner.0)) (slot g.stack (length named.params)) r →
-        quality p (class_type callee.owner.0) callee.receiver ≡ quality p (class_type named.owner.0) named.receiver →
+        quality p (class_type callee.owner.0) callee.receiver ≡ quality_in p (receiver named (slot g.stack (length named.params)) (peek f.stack (length named.params))) →
         ArgsFit p h (named_by g at) (length g.nodes) (all_passed named g f.stack) (r ∷ reverse vs) (parameters_of callee)
     all_fit more meets_all callee callee_params fits same_quality = subst (λ z. ArgsFit p h (named_by g at) (length g.nodes) z (r ∷ reverse vs) (parameters_of callee)) (sym args_are)
-        (subst (ArgsFit p h (named_by g at) (length g.nodes) (receiver named (slot g.stack (length named.params)) (peek f.stack (length named.params)) ∷ params) (r ∷ reverse vs)) (sym callee_params) (
+        (subst (ArgsFit p h (named_by g at) (length g.nodes) (here ∷ params) (r ∷ reverse vs)) (sym callee_params) (fits, (λ n x. lives (length named.params) n x), same_quality, params_here more meets_all))
+
+    -- those of a constructor of this class: where the class is no tree, it knows less of its receiver than is passed
+    pub begun_meet : is_constructor named ≡ true → (more : List Operand) → all_meet p (arguments named ++ more) f.stack ≡ true →
+        SlotFits p h (named_by g at) (length g.nodes) (type_sort p (class_type named.owner.0)) (slot g.stack (length named.params)) r →
+        ArgsMeet p h (named_by g at) (length g.nodes) (all_passed named g f.stack) (r ∷ reverse vs) (parameters_of named)
+    begun_meet con more meets_all fits = subst (λ z. ArgsMeet p h (named_by g at) (length g.nodes) z (r ∷ reverse vs) (parameters_of named)) (sym args_are)
+        (subst (ArgsMeet p h (named_by g at) (length g.nodes) (here ∷ params) (r ∷ reverse vs)) (sym own_params) (
           fits,
           (λ n x. lives (length named.params) n x),
-          same_quality,
-          params_fit p m h (named_by g at) (length g.nodes) k.flow named more f.stack g.stack vs (r ∷ rest) meets_all on_stack size (λ j n x. lives j n x) sized
-              (or_right (not (is_constructor named) && mixes p (peek f.stack (length named.params)) (vtype.Object (class_type named.owner.0))) _ mixed_here),
+          knows (is_tree_kind (kind_of p (class_type named.owner.0))) refl,
+          meet p h (named_by g at) (length g.nodes) params (reverse vs) (declared_parameters named.params named.qualifiers) (params_here more meets_all),
         ))
+      where
+        own_params : parameters_of named ≡ record { ty = class_type named.owner.0; qualifier = named.receiver } ∷ declared_parameters named.params named.qualifiers
+        own_params = ap (λ b. cond b (declared_parameters named.params named.qualifiers) (record { ty = class_type named.owner.0; qualifier = named.receiver } ∷ declared_parameters named.params named.qualifiers)) instance
+
+        passed_as : quality_in p (receiver named (slot g.stack (length named.params)) (peek f.stack (length named.params))) ≡ Some named.receiver
+        passed_as = ap (λ b. cond b (Some named.receiver) (quality p (class_type named.owner.0) named.receiver)) con
+
+        knows : (b : Bool) → is_tree_kind (kind_of p (class_type named.owner.0)) ≡ b →
+            Knows (quality p (class_type named.owner.0) named.receiver) (quality_in p (receiver named (slot g.stack (length named.params)) (peek f.stack (length named.params))))
+        knows true e = inl (ap (λ b. cond b (Some named.receiver) None) e ∙ sym passed_as)
+        knows false e = inr (ap (λ b. cond b (Some named.receiver) None) e)
+
+    -- no argument is gone, whatever the class of the receiver
+    pub begun_live : (more : List Operand) → all_meet p (arguments named ++ more) f.stack ≡ true → PassedLive (named_by g at) (all_passed named g f.stack)
+    begun_live more meets_all = subst (λ z. PassedLive (named_by g at) z) (sym args_are) at_place
+      where
+        at_place : PassedLive (named_by g at) (receiver named (slot g.stack (length named.params)) (peek f.stack (length named.params)) ∷ parameters named.params named.qualifiers (reverse (take (length named.params) g.stack)) (reverse (take (length named.params) f.stack)))
+        at_place zero n e = lives (length named.params) n e
+        at_place (suc j) n e = argument_lives p h (named_by g at) (length g.nodes) params (reverse vs) (declared_parameters named.params named.qualifiers)
+            (meet p h (named_by g at) (length g.nodes) params (reverse vs) (declared_parameters named.params named.qualifiers) (params_here more meets_all)) j n e
 
     -- ---- the receiver is initialized: of the named class or of one below it
 
@@ -195,7 +235,8 @@ module _ (p : Program) (k : ProgramKeeps p) (m : Method) (pl to : ℕ) (f f1 : T
           (slot g.stack (length named.params)) r receiver_on_stack
 
       fits : (callee : Method) → Agrees p named callee → ArgsFit p h (named_by g at) (length g.nodes) (all_passed named g f.stack) (r ∷ reverse vs) (parameters_of callee)
-      fits callee a = all_fit (Is (class_vtype named.owner) ∷ []) met_all callee callee_params (subst (λ z. SlotFits p h (named_by g at) (length g.nodes) z (slot g.stack (length named.params)) r) (sym a.sort_is) receiver_slot) a.quality_is
+      fits callee a = all_fit (Is (class_vtype named.owner) ∷ []) met_all callee callee_params (subst (λ z. SlotFits p h (named_by g at) (length g.nodes) z (slot g.stack (length named.params)) r) (sym a.sort_is) receiver_slot)
+          (a.quality_is ∙ ap (λ b. cond b (Some named.receiver) (quality p (class_type named.owner.0) named.receiver)) (sym plain))
         where
           callee_params : parameters_of callee ≡ record { ty = class_type callee.owner.0; qualifier = callee.receiver } ∷ declared_parameters named.params named.qualifiers
           callee_params = ap (λ b. cond b (declared_parameters callee.params callee.qualifiers) (record { ty = class_type callee.owner.0; qualifier = callee.receiver } ∷ declared_parameters callee.params callee.qualifiers)) a.instance

@@ -4,13 +4,15 @@ use Rattle.kilim_program.specs.Kinds.{class_kind, is_tree_kind, kind_of}
 use Rattle.kilim_program.specs.Lengths.{jump_targets, ends_path}
 use Rattle.kilim_program.specs.Names.{class_at, is_empty, method_at}
 use Rattle.kilim_program.specs.Program.{Program}
-use Rattle.kilim_program.specs.Same.{is_constructor}
+use Rattle.kilim_program.specs.Same.{is_constructor, same_qualifier}
 use Rattle.kilim_program.specs.declared.class.Method.{Method}
 use Rattle.kilim_program.specs.declared.instr.Instr.TheVariants as instr
 use Rattle.kilim_program.specs.declared.instr.Instr.{Instr}
 use Rattle.kilim_program.specs.declared.names.ClassId.{ClassId}
 use Rattle.kilim_program.specs.declared.names.MethodId.{MethodId}
 use Rattle.kilim_program.specs.declared.ty.Kind.TheVariants as kind
+use Rattle.kilim_program.specs.declared.ty.Qualifier.{Qualifier}
+use Rattle.kilim_program.specs.declared.ty.Qualifier.TheVariants as qualifier
 use Rattle.kilim_program.specs.declared.ty.Ty.{Ty}
 use Rattle.kilim_program.specs.declared.value.Value.TheVariants.{Int}
 use Rattle.kilim_program.specs.declared.value.Value.{Value}
@@ -19,8 +21,8 @@ use Rattle.kilim_program.specs.declared.verified.VType.{VType}
 use Rattle.kilim_isolation_laws.proofs.forest.Store.{both_ways}
 use Rattle.kilim_isolation_laws.specs.forest.Canonical.{node_at}
 use Rattle.kilim_isolation_laws.specs.forest.Relation.{is_gone, Named}
-use Rattle.kilim_isolation_laws.proofs.graph_rows.Calling.{call_holds, caller_holds, caller_slots}
-use Rattle.kilim_isolation_laws.proofs.graph_rows.Invoke.{all_fit, args_are, call_left, instance_left, length_more, receiver_class, receiver_on_stack, rest_on_stack, text_left, cuttable, free, graph, shared}
+use Rattle.kilim_isolation_laws.proofs.graph_rows.Calling.{ArgsMeet, PassedLive, after_within, call_holds, caller_holds, caller_slots}
+use Rattle.kilim_isolation_laws.proofs.graph_rows.Invoke.{all_fit, args_are, begun_live, begun_meet, call_left, instance_left, length_more, receiver_class, receiver_on_stack, rest_on_stack, text_left, cuttable, free, graph, shared}
 use Rattle.kilim_isolation_laws.proofs.graph_rows.Invoking.{values_h, params_fit, arguments_are}
 use Rattle.kilim_isolation_laws.proofs.graph_rows.Passed.{takes_passed, rule_passed, ok_is, further_passed}
 use Rattle.kilim_isolation_laws.proofs.graph_rows.Plain.{IsStep, E, dropped}
@@ -29,7 +31,7 @@ use Rattle.kilim_isolation_laws.proofs.graph_rows.Settle.{not_true, or_left, or_
 use Rattle.kilim_isolation_laws.proofs.graph_rows.Words.{class_of_h, cond_h, some_h, value_h, on_receiver_h, receiver_h, when_h}
 use Rattle.kilim_isolation_laws.specs.graph_rows.Facts.{AreOf, ProgramKeeps, class_of}
 use Rattle.kilim_isolation_laws.specs.graph_rows.Holds.{SlotsFit, made_sort, value_at, sort, object_sort, SlotFits, AreSlots, named_by, Waiting, Holds}
-use Rattle.kilim_isolation_laws.specs.graph_rows.Outcome.{ArgsFit, Left, CallHolds}
+use Rattle.kilim_isolation_laws.specs.graph_rows.Outcome.{ArgsFit, Left, CallHolds, NativeHolds, NoneFree}
 use Rattle.kilim_isolation_rules.specs.Calls.{quality_in, parameters, receiver, all_passed, calls, calls_with, after_call, takes_from, given_result, is_free, is_cuttable, shares, any_two, call_raises, handler_graph}
 use Rattle.kilim_isolation_rules.specs.Marks.{mixes, names_gone}
 use Rattle.kilim_isolation_rules.specs.Rules.{deed, raised_deed}
@@ -38,7 +40,7 @@ use Rattle.kilim_run_machine.specs.Does.{calls_method, calls_text, does, calls_o
 use Rattle.kilim_run_machine.specs.Effect.{Effect, Calls, Asks, Goes, text_of}
 use Rattle.kilim_run_state.specs.Machine.{Objects}
 use Rattle.kilim_run_machine.specs.Natives.{is_built_in_constructor, is_handed_out, is_text_method}
-use Rattle.kilim_isolation_graph.specs.Entry.{parameters_of, declared_parameters}
+use Rattle.kilim_isolation_graph.specs.Entry.{parameters_of, declared_parameters, quality}
 use Rattle.kilim_isolation_graph.specs.Graphs.{slot, popped}
 use Rattle.kilim_isolation_graph.specs.declared.graph.Graph.{Graph}
 use Rattle.kilim_type_spec.specs.Step as type
@@ -46,9 +48,39 @@ use Rattle.kilim_type_spec.specs.Step.{Types, peek, assignable, Operand, Is, mee
 use Rattle.kilim_type_spec.specs.Typed.{Among, edges}
 use Rattle.std.proofs.Common.{◌==◌, ◌≡◌, ℕ, ℤ, pos, negsuc, zero, suc, ◌+◌, Bool, true, false, true≢false, not, ◌&&◌, ◌||◌, cond, List, [], ◌∷◌, ◌++◌, length, reverse, Option, Some, None, Ok, refl, sym, ap, subst, ◌∙◌, ◌⊎◌, inl, inr, arith}
 use Rattle.std.proofs.lemmas.List.{length-reverse}
-use Rattle.std.specs.List.{list_any}
+use Rattle.std.proofs.lemmas.Option.{same_Some}
+use Rattle.std.specs.List.{list_all, list_any}
 use Rattle.std.specs.Prelude.{codes, drop, take, slice_get}
 use Rattle.std.specs.Str.{bytes_eq}
+
+-- ---- a built-in constructor takes no tree away
+
+not_free : (p : Program) (ty : Ty) (q : Qualifier) → (q ≡ qualifier.Free → ⊥) → quality p ty q ≡ Some qualifier.Free → ⊥
+not_free p ty q other = by (is_tree_kind (kind_of p ty))
+  where
+    by : (b : Bool) → cond b (Some q) None ≡ Some qualifier.Free → ⊥
+    by true e = other (same_Some q qualifier.Free e)
+    by false e = absurd (cc)
+
+safe_is : (q : Qualifier) → same_qualifier qualifier.Safe q ≡ true → q ≡ qualifier.Free → ⊥
+safe_is qualifier.Free e w = absurd (true≢false (sym e))
+safe_is qualifier.Cuttable e w = absurd (true≢false (sym e))
+safe_is qualifier.Safe e w = absurd (cc)
+
+safe_params : (p : Program) (tys : List Ty) (qs : List Qualifier) → list_all (same_qualifier qualifier.Safe) qs ≡ true → NoneFree p (declared_parameters tys qs)
+safe_params p [] qs e = tt
+safe_params p (ty ∷ tys) [] e = tt
+safe_params p (ty ∷ tys) (q ∷ qs) e = (not_free p ty q (safe_is q (and_left (same_qualifier qualifier.Safe q) _ e)), safe_params p tys qs (and_right (same_qualifier qualifier.Safe q) _ e))
+
+none_free : (p : Program) (named : Method) → named.receiver ≡ qualifier.Cuttable → list_all (same_qualifier qualifier.Safe) named.qualifiers ≡ true → NoneFree p (parameters_of named)
+none_free p named receiver others = by named.is_static
+  where
+    cuttable_is : (q : Qualifier) → q ≡ qualifier.Cuttable → q ≡ qualifier.Free → ⊥
+    cuttable_is q e w = let z : qualifier.Cuttable ≡ qualifier.Free = sym e ∙ w in absurd (cc)
+
+    by : (b : Bool) → NoneFree p (cond b (declared_parameters named.params named.qualifiers) (record { ty = class_type named.owner.0; qualifier = named.receiver } ∷ declared_parameters named.params named.qualifiers))
+    by true = safe_params p named.params named.qualifiers others
+    by false = (not_free p (class_type named.owner.0) named.receiver (cuttable_is named.receiver receiver), safe_params p named.params named.qualifiers others)
 
 -- ---- types that a constructor replaces
 
@@ -346,18 +378,18 @@ module _ (p : Program) (k : ProgramKeeps p) (m : Method) (pl to : ℕ) (f f1 : T
       rest_here : AreSlots p m h (named_by g at) (length g.nodes) (drop (takes_from named) f.stack) (drop (takes_from named) g.stack) rest
       rest_here = rest_on_stack p k m pl to f f1 g g1 at h ls st below after (instr.Invokespecial id) s special_edge named (k.sized id named is) (special_deed named is) (special_raised named is) built.1 vs r rest e size
 
-      params_are : parameters_of named ≡ record { ty = class_type named.owner.0; qualifier = named.receiver } ∷ declared_parameters named.params named.qualifiers
-      params_are = ap (λ b. cond b (declared_parameters named.params named.qualifiers) (record { ty = class_type named.owner.0; qualifier = named.receiver } ∷ declared_parameters named.params named.qualifiers)) built.1
+      live : PassedLive (named_by g at) (all_passed named g f.stack)
+      live = begun_live p k m pl to f f1 g g1 at h ls st below after (instr.Invokespecial id) s special_edge named (k.sized id named is) (special_deed named is) (special_raised named is) built.1 vs r rest e size [] (ap (λ z. all_meet p z f.stack) (append_nil (arguments named)) ∙ built.0)
 
-      fits : object_sort p (class_type built.2.made.0) ≡ object_sort p (class_type named.owner.0) → ArgsFit p h (named_by g at) (length g.nodes) (all_passed named g f.stack) (r ∷ reverse vs) (parameters_of named)
-      fits same = all_fit p k m pl to f f1 g g1 at h ls st below after (instr.Invokespecial id) s special_edge named (k.sized id named is) (special_deed named is) (special_raised named is) built.1 vs r rest e size [] (ap (λ z. all_meet p z f.stack) (append_nil (arguments named)) ∙ built.0) named params_are
-          (subst (λ z. SlotFits p h (named_by g at) (length g.nodes) z (slot g.stack (length named.params)) r) same receiver_here) refl
+      meets_here : object_sort p (class_type built.2.made.0) ≡ object_sort p (class_type named.owner.0) → ArgsMeet p h (named_by g at) (length g.nodes) (all_passed named g f.stack) (r ∷ reverse vs) (parameters_of named)
+      meets_here same = begun_meet p k m pl to f f1 g g1 at h ls st below after (instr.Invokespecial id) s special_edge named (k.sized id named is) (special_deed named is) (special_raised named is) built.1 vs r rest e size con [] (ap (λ z. all_meet p z f.stack) (append_nil (arguments named)) ∙ built.0)
+          (subst (λ z. SlotFits p h (named_by g at) (length g.nodes) z (slot g.stack (length named.params)) r) same receiver_here)
 
-      slots : (same : object_sort p (class_type built.2.made.0) ≡ object_sort p (class_type named.owner.0)) → SlotsFit p m (record { locals = replaced built.2.old built.2.new f.locals; stack = replaced built.2.old built.2.new built.2.rest; unset = built.2.unset })
+      slots : SlotsFit p m (record { locals = replaced built.2.old built.2.new f.locals; stack = replaced built.2.old built.2.new built.2.rest; unset = built.2.unset })
           (popped (takes_from named) (after_call p (all_passed named g f.stack) g)) at h ls rest
-      slots same = replaced_fit p m built.2.old built.2.new built.2.same f built.2.unset built.2.rest (popped (takes_from named) (after_call p (all_passed named g f.stack) g)) at h ls rest
+      slots = replaced_fit p m built.2.old built.2.new built.2.same f built.2.unset built.2.rest (popped (takes_from named) (after_call p (all_passed named g f.stack) g)) at h ls rest
           (subst (λ z. SlotsFit p m (record f { stack = z }) (popped (takes_from named) (after_call p (all_passed named g f.stack) g)) at h ls rest) on_top.1
-          (caller_slots p m f g at h ls st below s.0 (all_passed named g f.stack) (r ∷ reverse vs) named (fits same) (free p k m pl to f f1 g g1 at h ls st below after (instr.Invokespecial id) s special_edge named (k.sized id named is) (special_deed named is) (special_raised named is)) (shared p k m pl to f f1 g g1 at h ls st below after (instr.Invokespecial id) s special_edge named (k.sized id named is) (special_deed named is) (special_raised named is)) (cuttable p k m pl to f f1 g g1 at h ls st below after (instr.Invokespecial id) s special_edge named (k.sized id named is) (special_deed named is) (special_raised named is)) (takes_from named) rest rest_here))
+          (caller_slots p m f g at h ls st below s.0 (all_passed named g f.stack) live (free p k m pl to f f1 g g1 at h ls st below after (instr.Invokespecial id) s special_edge named (k.sized id named is) (special_deed named is) (special_raised named is)) (shared p k m pl to f f1 g g1 at h ls st below after (instr.Invokespecial id) s special_edge named (k.sized id named is) (special_deed named is) (special_raised named is)) (cuttable p k m pl to f f1 g g1 at h ls st below after (instr.Invokespecial id) s special_edge named (k.sized id named is) (special_deed named is) (special_raised named is)) (takes_from named) rest rest_here))
 
       same_sort : (named.built_in ≡ true → class_kind p named.owner ≡ kind.Private → ⊥) → object_sort p (class_type built.2.made.0) ≡ object_sort p (class_type named.owner.0)
       same_sort not_private = elim built.2.owner [
@@ -380,13 +412,53 @@ module _ (p : Program) (k : ProgramKeeps p) (m : Method) (pl to : ℕ) (f f1 : T
           same = same_sort (λ b q. true≢false (sym b ∙ own))
 
           call : CallHolds p m f1 g1 f (raised_deed p g f (instr.Invokespecial id)).graph h id (r ∷ reverse vs) ls rest below
-          call = call_holds p m f g at h ls st below s.0 (all_passed named g f.stack) (r ∷ reverse vs) named (fits same) (free p k m pl to f f1 g g1 at h ls st below after (instr.Invokespecial id) s special_edge named (k.sized id named is) (special_deed named is) (special_raised named is)) (shared p k m pl to f f1 g g1 at h ls st below after (instr.Invokespecial id) s special_edge named (k.sized id named is) (special_deed named is) (special_raised named is)) (cuttable p k m pl to f f1 g g1 at h ls st below after (instr.Invokespecial id) s special_edge named (k.sized id named is) (special_deed named is) (special_raised named is)) (k.sized id named is) id
-              (record { locals = replaced built.2.old built.2.new f.locals; stack = replaced built.2.old built.2.new built.2.rest; unset = built.2.unset }) (takes_from named) rest f1 g1 is (slots same) built.2.types (graph p k m pl to f f1 g g1 at h ls st below after (instr.Invokespecial id) s special_edge named (k.sized id named is) (special_deed named is) (special_raised named is)) (raised_deed p g f (instr.Invokespecial id)).graph (special_raised named is) (λ j. sym (replaced_peek p m built.2.old built.2.new built.2.same f.locals j))
+          call = call_holds p m f g at h ls st below s.0 (all_passed named g f.stack) (r ∷ reverse vs) named (meets_here same) (free p k m pl to f f1 g g1 at h ls st below after (instr.Invokespecial id) s special_edge named (k.sized id named is) (special_deed named is) (special_raised named is)) (shared p k m pl to f f1 g g1 at h ls st below after (instr.Invokespecial id) s special_edge named (k.sized id named is) (special_deed named is) (special_raised named is)) (cuttable p k m pl to f f1 g g1 at h ls st below after (instr.Invokespecial id) s special_edge named (k.sized id named is) (special_deed named is) (special_raised named is)) (k.sized id named is) id
+              (record { locals = replaced built.2.old built.2.new f.locals; stack = replaced built.2.old built.2.new built.2.rest; unset = built.2.unset }) (takes_from named) rest f1 g1 is slots built.2.types (graph p k m pl to f f1 g g1 at h ls st below after (instr.Invokespecial id) s special_edge named (k.sized id named is) (special_deed named is) (special_raised named is)) (raised_deed p g f (instr.Invokespecial id)).graph (special_raised named is) (λ j. sym (replaced_peek p m built.2.old built.2.new built.2.same f.locals j))
+
+      -- a built-in one that takes something is asked; it is given no tree
+      constructor_asked : named.built_in ≡ true → EI (instr.Invokespecial id) (calls_method (method_at p (special p m named id)) (special p m named id) (r ∷ reverse vs) to ls rest h)
+      constructor_asked own = subst (λ z. EI (instr.Invokespecial id) (calls_method (method_at p z) z (r ∷ reverse vs) to ls rest h)) (sym itself)
+          (subst (λ z. EI (instr.Invokespecial id) (calls_method z id (r ∷ reverse vs) to ls rest h)) (sym is)
+          (subst (λ b. EI (instr.Invokespecial id) (cond b (Rattle.kilim_run_machine.specs.Effect.Asks id (r ∷ reverse vs) to ls rest h) (Rattle.kilim_run_machine.specs.Effect.Calls id (r ∷ reverse vs) to ls rest h))) (sym own) (special_edge, refl, native)))
+        where
+          itself : special p m named id ≡ id
+          itself = ap (λ b. cond (b || named.owner.0 == m.owner.0) id (Rattle.kilim_run_machine.specs.Does.above_of p named id (Rattle.kilim_run_machine.specs.Does.superclass_of (class_at p m.owner)))) con
+
+          facts : (named.result ≡ None) × (named.receiver ≡ qualifier.Cuttable) × (list_all (same_qualifier qualifier.Safe) named.qualifiers ≡ true)
+          facts = k.constructors id named is own con
+
+          hd : Holds p m (record f { stack = drop (takes_from named) f.stack }) (popped (takes_from named) (after_call p (all_passed named g f.stack) g)) at h ls rest below
+          hd = caller_holds p m f g at h ls st below s.0 (all_passed named g f.stack) live (free p k m pl to f f1 g g1 at h ls st below after (instr.Invokespecial id) s special_edge named (k.sized id named is) (special_deed named is) (special_raised named is)) (shared p k m pl to f f1 g g1 at h ls st below after (instr.Invokespecial id) s special_edge named (k.sized id named is) (special_deed named is) (special_raised named is)) (cuttable p k m pl to f f1 g g1 at h ls st below after (instr.Invokespecial id) s special_edge named (k.sized id named is) (special_deed named is) (special_raised named is)) (takes_from named) rest rest_here
+
+          native : NativeHolds p m f1 g1 f (raised_deed p g f (instr.Invokespecial id)).graph h id (r ∷ reverse vs) ls rest below
+          native = record {
+            callee = named;
+            is = is;
+            types = f;
+            kept = record { locals = replaced built.2.old built.2.new f.locals; stack = replaced built.2.old built.2.new built.2.rest; unset = built.2.unset };
+            graph = g;
+            at = at;
+            values = st;
+            stands = s.0;
+            passed = all_passed named g f.stack;
+            takes = takes_from named;
+            hands = inr (none_free p named facts.1 facts.2);
+            after = built.2.types;
+            left = graph p k m pl to f f1 g g1 at h ls st below after (instr.Invokespecial id) s special_edge named (k.sized id named is) (special_deed named is) (special_raised named is);
+            raised_is = special_raised named is;
+            sorts = λ j. sym (replaced_peek p m built.2.old built.2.new built.2.same f.locals j);
+            waits = record {
+              slots = slots;
+              tidy = hd.tidy;
+              within = after_within p m f g at h ls st below s.0 (all_passed named g f.stack) live (free p k m pl to f f1 g g1 at h ls st below after (instr.Invokespecial id) s special_edge named (k.sized id named is) (special_deed named is) (special_raised named is)) (shared p k m pl to f f1 g g1 at h ls st below after (instr.Invokespecial id) s special_edge named (k.sized id named is) (special_deed named is) (special_raised named is)) (cuttable p k m pl to f f1 g g1 at h ls st below after (instr.Invokespecial id) s special_edge named (k.sized id named is) (special_deed named is) (special_raised named is));
+            };
+            frames = hd.frames;
+          }
 
       -- a built-in one changes the types alone, and what was known below the object
       module _ (here : named.built_in ≡ true) (empty : named.params ≡ []) where
         none : named.result ≡ None
-        none = (k.constructors id named is here con).1
+        none = (k.constructors id named is here con).0
 
         f_is : f1 ≡ record { locals = replaced built.2.old built.2.new f.locals; stack = replaced built.2.old built.2.new built.2.rest; unset = built.2.unset }
         f_is = built.2.types ∙ ap (λ z. record { locals = replaced built.2.old built.2.new f.locals; stack = result_types z ++ replaced built.2.old built.2.new built.2.rest; unset = built.2.unset }) none
@@ -394,39 +466,14 @@ module _ (p : Program) (k : ProgramKeeps p) (m : Method) (pl to : ℕ) (f f1 : T
         g_is : g1 ≡ popped (takes_from named) (after_call p (all_passed named g f.stack) g)
         g_is = graph p k m pl to f f1 g g1 at h ls st below after (instr.Invokespecial id) s special_edge named (k.sized id named is) (special_deed named is) (special_raised named is) ∙ ap (λ z. given_result p z (popped (takes_from named) (after_call p (all_passed named g f.stack) g))) none
 
-        one : all_passed named g f.stack ≡ receiver named (slot g.stack 0) (peek f.stack 0) ∷ []
-        one = args_are p k m pl to f f1 g g1 at h ls st below after (instr.Invokespecial id) s special_edge named (k.sized id named is) (special_deed named is) (special_raised named is) built.1 vs r rest e size
-            ∙ ap (λ ps. receiver named (slot g.stack (length ps)) (peek f.stack (length ps)) ∷ parameters ps named.qualifiers (reverse (take (length ps) g.stack)) (reverse (take (length ps) f.stack))) empty
-
-        by : (b : Bool) → is_tree_kind (kind_of p (class_type named.owner.0)) ≡ b → Left p m f1 g1 h ls rest below
-        by true tree =
-            let same = same_sort (λ b q. true≢false (sym tree ∙ ap is_tree_kind q)) in
-            let hd = caller_holds p m f g at h ls st below s.0 (all_passed named g f.stack) (r ∷ reverse vs) named (fits same) (free p k m pl to f f1 g g1 at h ls st below after (instr.Invokespecial id) s special_edge named (k.sized id named is) (special_deed named is) (special_raised named is)) (shared p k m pl to f f1 g g1 at h ls st below after (instr.Invokespecial id) s special_edge named (k.sized id named is) (special_deed named is) (special_raised named is)) (cuttable p k m pl to f f1 g g1 at h ls st below after (instr.Invokespecial id) s special_edge named (k.sized id named is) (special_deed named is) (special_raised named is)) (takes_from named) rest rest_here in (
+        pub begun_left : Left p m f1 g1 h ls rest below
+        begun_left =
+            let hd = caller_holds p m f g at h ls st below s.0 (all_passed named g f.stack) live (free p k m pl to f f1 g g1 at h ls st below after (instr.Invokespecial id) s special_edge named (k.sized id named is) (special_deed named is) (special_raised named is)) (shared p k m pl to f f1 g g1 at h ls st below after (instr.Invokespecial id) s special_edge named (k.sized id named is) (special_deed named is) (special_raised named is)) (cuttable p k m pl to f f1 g g1 at h ls st below after (instr.Invokespecial id) s special_edge named (k.sized id named is) (special_deed named is) (special_raised named is)) (takes_from named) rest rest_here in (
               at,
               subst (λ z. Holds p m z g1 at h ls rest below) (sym f_is)
                   (subst (λ z. Holds p m (record { locals = replaced built.2.old built.2.new f.locals; stack = replaced built.2.old built.2.new built.2.rest; unset = built.2.unset }) z at h ls rest below) (sym g_is)
-                  (record { heap = hd.heap; forest = hd.forest; frames = hd.frames; tidy = hd.tidy; waits = hd.waits; slots = slots same })),
+                  (record { heap = hd.heap; forest = hd.forest; frames = hd.frames; tidy = hd.tidy; waits = hd.waits; slots = slots })),
             )
-        by false plain =
-            let after_is : after_call p (all_passed named g f.stack) g ≡ g =
-            ap (λ z. after_call p z g) one ∙ ap (λ q. Rattle.kilim_isolation_rules.specs.Calls.after_arguments (Rattle.kilim_isolation_rules.specs.Calls.more_arguments q (slot g.stack 0) []) g)
-            (ap (λ b. cond b (Some named.receiver) None) plain) in (
-              at,
-              subst (λ z. Holds p m z g1 at h ls rest below) (sym f_is)
-                  (subst (λ z. Holds p m (record { locals = replaced built.2.old built.2.new f.locals; stack = replaced built.2.old built.2.new built.2.rest; unset = built.2.unset }) z at h ls rest below) (sym (g_is ∙ ap (popped (takes_from named)) after_is))
-                  (record {
-                    heap = s.0.holds.heap;
-                    forest = s.0.holds.forest;
-                    frames = s.0.holds.frames;
-                    tidy = s.0.holds.tidy;
-                    waits = s.0.holds.waits;
-                    slots = replaced_fit p m built.2.old built.2.new built.2.same f built.2.unset built.2.rest (popped (takes_from named) g) at h ls rest
-                        (subst (λ z. SlotsFit p m (record f { stack = z }) (popped (takes_from named) g) at h ls rest) on_top.1 (record { on_stack = rest_here; in_locals = s.0.holds.slots.in_locals }));
-                  })),
-            )
-
-        pub begun_left : Left p m f1 g1 h ls rest below
-        begun_left = by (is_tree_kind (kind_of p (class_type named.owner.0))) refl
 
     no_params : (ps : List Ty) → is_empty ps ≡ true → ps ≡ []
     no_params [] e = refl
@@ -445,11 +492,11 @@ module _ (p : Program) (k : ProgramKeeps p) (m : Method) (pl to : ℕ) (f f1 : T
         by : (named : Method) → method_at p id ≡ Some named → is_built_in_constructor named ≡ false → (vs : List Value) (r : Value) (rest : List Value) → st ≡ vs ++ r ∷ rest → length vs ≡ length named.params → (b : Bool) → is_constructor named ≡ b →
             EI (instr.Invokespecial id) (calls_method (method_at p (special p m named id)) (special p m named id) (r ∷ reverse vs) to ls rest h)
         by named is other vs r rest e size false plain = special_left named is plain vs r rest e size
-        by named is other vs r rest e size true con = constructs_left named is con vs r rest e size (not_built named.built_in refl)
+        by named is other vs r rest e size true con = by_own named.built_in refl
           where
-            not_built : (b : Bool) → named.built_in ≡ b → b ≡ false
-            not_built false q = refl
-            not_built true q = absurd (true≢false (sym (ap (λ z. z && (is_constructor named && is_empty named.params)) q ∙ ap (λ z. z && is_empty named.params) con ∙ ap is_empty (k.constructors id named is q con).0) ∙ other))
+            by_own : (b : Bool) → named.built_in ≡ b → EI (instr.Invokespecial id) (calls_method (method_at p (special p m named id)) (special p m named id) (r ∷ reverse vs) to ls rest h)
+            by_own false own = constructs_left named is con vs r rest e size own
+            by_own true own = constructor_asked named is con vs r rest e size own
 
   -- ---- invokestatic
 

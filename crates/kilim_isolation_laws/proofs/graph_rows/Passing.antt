@@ -95,10 +95,17 @@ module _ (h : Heap) (u after : Named) (p : Program) where
       (subst (λ z. AllLeft_behind h u after (more_arguments z a.name (arguments p args))) q all)).0
   behind_cuttable (a ∷ args) all (suc k) n q e = behind_cuttable args (tail_behind h u after (quality_in p a) a.name (arguments p args) all) k n q e
 
+-- The callee may know less of an argument than it is passed as: the constructor of `java/lang/Object` knows nothing of a tree that is its receiver.
+abbrev pub Weaker : (ℕ → Qualifier) → (ℕ → Qualifier) → Type 0
+Weaker inside qual = (k : ℕ) → is_owned (inside k) ≡ true → qual k ≡ inside k
+
+owned_is : (q : Qualifier) (x : Rattle.kilim_program.specs.declared.ty.Qualifier.Qualifier) → q ≡ Some x → is_owned (Some x) ≡ true → is_owned q ≡ true
+owned_is q x e owned = ap is_owned e ∙ owned
+
 module _ (IsPlace : ℕ → Label → Type 0) (h : Heap) (u : Named) (ls : List Named) (forest : IsForest h) (fs : Frames IsPlace h (u ∷ ls)) (tidy : IsTidy u.node) (fuel : ℕ) (p : Program) (args : List Passed)
-    (value : ℕ → Option ℕ) (c : IsCall u (length args) (quality_at p args) (passed_at args) value) where
+    (inside : ℕ → Qualifier) (weaker : Weaker inside (quality_at p args)) (value : ℕ → Option ℕ) (c : IsCall u (length args) inside (passed_at args) value) where
   abbrev pub entry_named : Named
-  entry_named = record { node = λ k. entry_node (quality_at p args k) k; at = value }
+  entry_named = record { node = λ k. entry_node (inside k) k; at = value }
 
   abbrev pub after_named : Named
   after_named = record { node = after_arguments fuel u.node (arguments p args); at = u.at }
@@ -110,27 +117,34 @@ module _ (IsPlace : ℕ → Label → Type 0) (h : Heap) (u : Named) (ls : List 
   behind = arguments_behind IsPlace h u forest fs.0 tidy fuel u (less_itself u) (arguments p args)
 
   name_of : (k o : ℕ) → value k ≡ Some o → (passed_at args k ≡ Some (of k)) × Names u (of k) o
-  name_of k o e = of_named IsPlace h u ls forest fs tidy fuel (length args) (quality_at p args) (passed_at args) value c k o e
+  name_of k o e = of_named IsPlace h u ls forest fs tidy fuel (length args) inside (passed_at args) value c k o e
 
-  gone_region : (k o m : ℕ) → Owns entry_named k o → quality_at p args k ≡ (Some qualifier.Free) → is_gone (after_named.node m).standing ≡ false → (u.node m).region ≡ (u.node (of k)).region → ⊥
-  gone_region k o m w free live same = behind_free h u after_named p args behind.1 k (of k) free (name_of k o w.2).0 m live same
+  -- what the callee owns is passed as such
+  free_passed : (k : ℕ) → inside k ≡ Some qualifier.Free → quality_at p args k ≡ Some qualifier.Free
+  free_passed k e = weaker k (owned_is (inside k) qualifier.Free e refl) ∙ e
+
+  cuttable_passed : (k : ℕ) → inside k ≡ Some qualifier.Cuttable → quality_at p args k ≡ Some qualifier.Cuttable
+  cuttable_passed k e = weaker k (owned_is (inside k) qualifier.Cuttable e refl) ∙ e
+
+  gone_region : (k o m : ℕ) → Owns entry_named k o → inside k ≡ (Some qualifier.Free) → is_gone (after_named.node m).standing ≡ false → (u.node m).region ≡ (u.node (of k)).region → ⊥
+  gone_region k o m w free live same = behind_free h u after_named p args behind.1 k (of k) (free_passed k free) (name_of k o w.2).0 m live same
 
   after_call_is : IsAfter_call h u after_named entry_named of
   after_call_is = record {
     at = λ n. refl;
     lives = λ n e. lives IsPlace h u after_named behind.0 n e;
-    free = λ k o m w root live same. gone_region k o m w (root_free (quality_at p args k) k root) live same;
-    cuttable = λ k o m x w wm same. elim (owned_of (quality_at p args k) k w.0 w.1) [
+    free = λ k o m w root live same. gone_region k o m w (root_free (inside k) k root) live same;
+    cuttable = λ k o m x w wm same. elim (owned_of (inside k) k w.0 w.1) [
       | inl free ↦ absurd (gone_region k o m w free wm.0 same)
-      | inr cuttable ↦ (behind_cuttable h u after_named p args behind.1 k (of k) cuttable (name_of k o w.2).0).0 o m x (name_of k o w.2).1.1 wm same
+      | inr cuttable ↦ (behind_cuttable h u after_named p args behind.1 k (of k) (cuttable_passed k cuttable) (name_of k o w.2).0).0 o m x (name_of k o w.2).1.1 wm same
     ];
-    no_edge = λ k o m l w live_k e live. elim (owned_of (quality_at p args k) k w.0 w.1) [
+    no_edge = λ k o m l w live_k e live. elim (owned_of (inside k) k w.0 w.1) [
       | inl free ↦ gone_region k o (of k) w free live_k refl
-      | inr cuttable ↦ (behind_cuttable h u after_named p args behind.1 k (of k) cuttable (name_of k o w.2).0).1 m l e
+      | inr cuttable ↦ (behind_cuttable h u after_named p args behind.1 k (of k) (cuttable_passed k cuttable) (name_of k o w.2).0).1 m l e
     ];
   }
 
   -- a call that no rule refuses keeps the relation of all frames
   pub called : Frames IsPlace h (entry_named ∷ after_named ∷ ls)
-  called = call_keeps IsPlace h u after_named entry_named of ls forest fs (view IsPlace h u ls forest fs tidy fuel (length args) (quality_at p args) (passed_at args) value c)
-      (owned IsPlace h u ls forest fs tidy fuel (length args) (quality_at p args) (passed_at args) value c) behind.0 after_call_is
+  called = call_keeps IsPlace h u after_named entry_named of ls forest fs (view IsPlace h u ls forest fs tidy fuel (length args) inside (passed_at args) value c)
+      (owned IsPlace h u ls forest fs tidy fuel (length args) inside (passed_at args) value c) behind.0 after_call_is

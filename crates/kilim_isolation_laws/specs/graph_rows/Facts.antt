@@ -1,6 +1,7 @@
 -- Facts of a program that the rows rest on, and the laws of the rows that are proved.
 use Rattle.std.specs.Prelude.{◌≡◌, ◌⊎◌, ◌<◌, ℕ, true, false, List, [], ◌∷◌, Option, Some, None, Ok, codes, length, slice_get}
 use Rattle.std.specs.FinMap.{get}
+use Rattle.std.specs.List.{list_all}
 use Rattle.kilim_program.specs.declared.class.Method.{Method}
 use Rattle.kilim_program.specs.declared.instr.Instr.{Instr}
 use Rattle.kilim_program.specs.declared.names.ClassId.{ClassId}
@@ -39,7 +40,7 @@ use Rattle.kilim_isolation_laws.specs.forest.Relation.{Label, Names, Root}
 use Rattle.kilim_isolation_laws.specs.forest.Steps.{gone_node}
 use Rattle.kilim_isolation_laws.specs.forest.Canonical.{node_at}
 use Rattle.kilim_isolation_graph.specs.declared.graph.Graph.{Graph}
-use Rattle.kilim_program.specs.Same.{is_constructor}
+use Rattle.kilim_program.specs.Same.{is_constructor, same_qualifier}
 use Rattle.kilim_program.specs.Fits.{fits_type}
 use Rattle.kilim_isolation_rules.specs.Rules.{moves, raised_deed}
 use Rattle.kilim_isolation_graph.specs.Entry.{quality}
@@ -93,8 +94,9 @@ pub record ProgramKeeps (p : Program) : Type 0 where
   -- a superclass is of its subclass's sort, or it is private and has built-in methods alone
   pub above : (c up : ClassId) → superclass_at (class_at p c) ≡ Some up → (object_sort p (class_type up.0) ≡ object_sort p (class_type c.0)) ⊎
       ((class_kind p up ≡ kind.Private) × ((id : MethodId) (named : Method) → method_at p id ≡ Some named → named.owner.0 ≡ up.0 → named.built_in ≡ true))
-  -- a built-in constructor takes and gives nothing
-  pub constructors : (id : MethodId) (named : Method) → method_at p id ≡ Some named → named.built_in ≡ true → is_constructor named ≡ true → (named.params ≡ []) × (named.result ≡ None)
+  -- a built-in constructor gives nothing, has a cuttable receiver, and is handed nothing to keep
+  pub constructors : (id : MethodId) (named : Method) → method_at p id ≡ Some named → named.built_in ≡ true → is_constructor named ≡ true →
+      (named.result ≡ None) × (named.receiver ≡ qualifier.Cuttable) × (list_all (same_qualifier qualifier.Safe) named.qualifiers ≡ true)
   -- what can be thrown is private
   pub thrown : (c : ClassId) → is_throwable p c ≡ true → kind_of p (class_type c.0) ≡ kind.Private
 

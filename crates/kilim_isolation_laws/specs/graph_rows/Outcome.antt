@@ -1,11 +1,12 @@
 -- What an instruction of an accepted method has to leave.
-use Rattle.std.specs.Prelude.{◌≡◌, ℕ, false, List, [], ◌∷◌, ◌++◌, Option, Some, None, drop, length, map}
+use Rattle.std.specs.Prelude.{◌≡◌, ◌⊎◌, ℕ, false, List, [], ◌∷◌, ◌++◌, Option, Some, None, drop, length, map}
 use Rattle.std.specs.FinMap.{get, insert}
 use Rattle.std.specs.List.{list_any}
 use Rattle.kilim_program.specs.declared.ty.Kind.TheVariants as kind
 use Rattle.kilim_program.specs.declared.class.Method.{Method}
 use Rattle.kilim_program.specs.declared.names.BoxName.{BoxName}
 use Rattle.kilim_program.specs.declared.names.MethodId.{MethodId}
+use Rattle.kilim_program.specs.declared.ty.Qualifier.TheVariants as qualifier
 use Rattle.kilim_program.specs.declared.ty.Ty.{Ty}
 use Rattle.kilim_program.specs.declared.value.Value.{Value}
 use Rattle.kilim_program.specs.declared.value.Value.TheVariants.{Ref, Box}
@@ -58,26 +59,38 @@ ArgsFit p h u count [] [] [] = Unit {0}
 ArgsFit p h u count (a ∷ args) (v ∷ vs) (q ∷ qs) = SlotFits p h u count (type_sort p q.ty) a.name v × ((n : ℕ) → a.name ≡ Some n → is_gone (u.node n).standing ≡ false) × (quality p q.ty q.qualifier ≡ quality_in p a) × ArgsFit p h u count args vs qs
 ArgsFit p h u count args vs qs = ⊥
 
--- A built-in method was asked, with these arguments: the caller before the call, and with its graph right after the arguments. What
--- the method gives comes on top of the stack; a tree that it is given leaves the heap.
+-- no parameter takes a tree away
+abbrev pub NoneFree : Program → List Parameter → Type 0
+NoneFree p [] = Unit {0}
+NoneFree p (q ∷ qs) = (quality p q.ty q.qualifier ≡ Some qualifier.Free → ⊥) × NoneFree p qs
+
+-- what is passed to a method that takes a tree away: the caller's types are what they were, but for the arguments
+pub record HandsOn (p : Program) (m : Method) (types kept : Types) (graph : Graph) (at : ℕ → Option ℕ) (h : Objects) (passed : List Passed) (callee : Method) (args stack : List Value) (takes : ℕ) : Type 0 where
+  pub kept_is : kept ≡ record types { stack = drop takes types.stack }
+  pub fits : ArgsFit p h (named_by graph at) (length graph.nodes) passed args (parameters_of callee)
+  pub not_free : list_any (is_not_free p graph) passed ≡ false
+  pub rest : AreSlots p m h (named_by graph at) (length graph.nodes) (drop takes types.stack) (drop takes graph.stack) stack
+
+-- A built-in method was asked, with these arguments: the caller before the call, and with its graph right after the arguments, where it has
+-- the types `kept`: those from before without the arguments, with the object initialized that a constructor has for its receiver. What the
+-- method gives comes on top of the stack; a tree that it is given leaves the heap.
 pub record NativeHolds (p : Program) (m : Method) (f : Types) (g : Graph) (f0 : Types) (raised : Graph) (h : Objects) (id : MethodId) (args locals stack : List Value) (below : List Waiting) : Type 0 where
   pub callee : Method
   pub is : method_at p id ≡ Some callee
   pub types : Types
+  pub kept : Types
   pub graph : Graph
   pub at : ℕ → Option ℕ
   pub values : List Value
   pub stands : Stands p m types graph at h locals values below
   pub passed : List Passed
-  pub fits : ArgsFit p h (named_by graph at) (length graph.nodes) passed args (parameters_of callee)
-  pub not_free : list_any (is_not_free p graph) passed ≡ false
   pub takes : ℕ
-  pub rest : AreSlots p m h (named_by graph at) (length graph.nodes) (drop takes types.stack) (drop takes graph.stack) stack
-  pub after : f ≡ record types { stack = result_types callee.result ++ drop takes types.stack }
+  pub hands : HandsOn p m types kept graph at h passed callee args stack takes ⊎ NoneFree p (parameters_of callee)
+  pub after : f ≡ record kept { stack = result_types callee.result ++ kept.stack }
   pub left : g ≡ given_result p callee.result (popped takes (after_call p passed graph))
   pub raised_is : raised ≡ handler_graph (popped takes (after_call p passed graph))
-  pub before : f0 ≡ types
-  pub waits : WaitFits p h (record { method = m; types = record types { stack = drop takes types.stack }; graph = popped takes (after_call p passed graph); at = at; locals = locals; stack = stack })
+  pub sorts : (k : ℕ) → sort p m (peek kept.locals k) ≡ sort p m (peek f0.locals k)
+  pub waits : WaitFits p h (record { method = m; types = kept; graph = popped takes (after_call p passed graph); at = at; locals = locals; stack = stack })
   pub frames : Frames IsPlace (trees p h) (named_by (after_call p passed graph) at ∷ map waiting_named below)
 
 abbrev pub EffectHolds : Program → Method → List ℕ → Types → Graph → (ℕ → Option ℕ) → List Waiting → Objects → List Node → (to : ℕ) (f0 : Types) (raised : Graph) → Effect → Type 0

@@ -12,13 +12,15 @@ use Rattle.kilim_program.specs.declared.names.ClassId.{ClassId}
 use Rattle.kilim_program.specs.declared.names.FieldId.{FieldId}
 use Rattle.kilim_program.specs.declared.ty.Base.{Base}
 use Rattle.kilim_program.specs.declared.ty.Base.TheVariants as base
+use Rattle.kilim_program.specs.declared.ty.Qualifier.{Qualifier}
+use Rattle.kilim_program.specs.declared.ty.Qualifier.TheVariants.{Free, Cuttable, Safe}
 use Rattle.kilim_program.specs.declared.ty.Ty.{Ty}
 use Rattle.kilim_program.specs.Program.{Program}
 use Rattle.kilim_program.specs.BuiltIn.{class_type, built_in_classes_in, built_in_methods_in}
 use Rattle.kilim_program.specs.declared.class.Method.{Method}
 use Rattle.kilim_program.specs.declared.names.MethodId.{MethodId}
-use Rattle.kilim_program.specs.Same.{same_flag, is_constructor}
-use Rattle.kilim_program.specs.Names.{class_at, method_at, is_empty, field_of, line_up_to, ◌>>=◌}
+use Rattle.kilim_program.specs.Same.{same_flag, same_qualifier, is_constructor}
+use Rattle.kilim_program.specs.Names.{class_at, method_at, field_of, line_up_to, ◌>>=◌}
 use Rattle.kilim_program.specs.Keeps.{Keeps, constants_fit, constant_fits}
 use Rattle.kilim_program.specs.Fits.{fits_type, type_assignable, base_assignable, class_assignable}
 use Rattle.kilim_type_spec.specs.Step.{superclass_at}
@@ -128,13 +130,14 @@ module _ (p : Program) where
       by true e = absurd (cc)
       by false e = refl
 
+  -- it gives nothing, has a cuttable receiver, and is handed nothing to keep
   abbrev plain_constructor : Method → Bool
-  plain_constructor m = not (m.built_in && is_constructor m) || (is_empty m.params && is_none m.result)
+  plain_constructor m = not (m.built_in && is_constructor m) || (is_none m.result && (same_qualifier m.receiver Cuttable && list_all (same_qualifier Safe) m.qualifiers))
 
   own_constructor : (m : Method) → own_body m ≡ true → plain_constructor m ≡ true
   own_constructor m e = by m.built_in (and_parts (not m.built_in) _ e).0
     where
-      by : (z : Bool) → not z ≡ true → (not (z && is_constructor m) || (is_empty m.params && is_none m.result)) ≡ true
+      by : (z : Bool) → not z ≡ true → (not (z && is_constructor m) || (is_none m.result && (same_qualifier m.receiver Cuttable && list_all (same_qualifier Safe) m.qualifiers))) ≡ true
       by true e = absurd (cc)
       by false e = refl
 
@@ -142,17 +145,21 @@ module _ (p : Program) where
   built_constructor Plain n = refl
   built_constructor Woven n = refl
 
-  pub constructors : Keeps p → (id : MethodId) (m : Method) → method_at p id ≡ Some m → m.built_in ≡ true → is_constructor m ≡ true → (m.params ≡ []) × (m.result ≡ None)
+  pub constructors : Keeps p → (id : MethodId) (m : Method) → method_at p id ≡ Some m → m.built_in ≡ true → is_constructor m ≡ true →
+      (m.result ≡ None) × (m.receiver ≡ Cuttable) × (list_all (same_qualifier Safe) m.qualifiers ≡ true)
   constructors keeps id m e own con =
       let t = among_both plain_constructor keeps.built_in.own_methods _ id.0 m (all_weaker own_body plain_constructor own_constructor keeps.built_in.own_methods keeps.built_in.bodies) (built_constructor p.form (length keeps.built_in.own_classes)) (subst (λ (ms : List Method). slice_get ms id.0 ≡ Some m) keeps.built_in.methods e) in
-      let u = subst (λ (z : Bool). (not (z && is_constructor m) || (is_empty m.params && is_none m.result)) ≡ true) own t in
-      let v = subst (λ (z : Bool). (not z || (is_empty m.params && is_none m.result)) ≡ true) con u in
-      let w = and_parts (is_empty m.params) (is_none m.result) v in
-      (empty m.params w.0, none m.result w.1)
+      let rest = is_none m.result && (same_qualifier m.receiver Cuttable && list_all (same_qualifier Safe) m.qualifiers) in
+      let u = subst (λ (z : Bool). (not (z && is_constructor m) || rest) ≡ true) own t in
+      let v = subst (λ (z : Bool). (not z || rest) ≡ true) con u in
+      let w = and_parts (is_none m.result) _ v in
+      let x = and_parts (same_qualifier m.receiver Cuttable) _ w.1 in
+      (none m.result w.0, cuttable m.receiver x.0, x.1)
     where
-      empty : (tys : List Ty) → is_empty tys ≡ true → tys ≡ []
-      empty [] e = refl
-      empty (ty ∷ tys) e = absurd (cc)
+      cuttable : (q : Qualifier) → same_qualifier q Cuttable ≡ true → q ≡ Cuttable
+      cuttable Cuttable e = refl
+      cuttable Free e = absurd (cc)
+      cuttable Safe e = absurd (cc)
 
       none : (o : Option Ty) → is_none o ≡ true → o ≡ None
       none None e = refl

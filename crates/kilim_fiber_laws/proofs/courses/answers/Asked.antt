@@ -40,7 +40,7 @@ use Rattle.kilim_type_spec.specs.Typed.{has_code}
 use Rattle.kilim_fiber_spec.specs.Rows.{Receives, below_arguments, class_if}
 use Rattle.kilim_fiber_spec.proofs.alike.Effects.{is_simple}
 use Rattle.kilim_fiber_spec.proofs.alike.Lands.{hushed, hushed_simple, q_constant, q_if, q_index, q_int, q_long, q_object, q_reference, q_some, q_throws, q_value}
-use Rattle.kilim_fiber_laws.proofs.courses.answers.Texts.{NotNull, bare, own_text_is, text_alone}
+use Rattle.kilim_fiber_laws.proofs.courses.answers.Texts.{NotNull, bare, constructs_other, own_text_is, text_alone}
 
 -- ---- instructions that call nothing
 
@@ -302,15 +302,19 @@ module _ (p : Program) (keeps : Keeps p) (form : p.form ≡ Plain) (of : Classes
         itself : special p own named id ≡ id
         itself = ap (λ (z : Bool). cond (z || eqb named.owner.0 own.owner.0) id (above_of p named id (superclass_of (class_at p own.owner)))) con
 
-        never : is_built_in_constructor named ≡ false → named.built_in ≡ true → ⊥
-        never e built =
-            false≢true (sym e ∙ and_from named.built_in _ built (and_from (is_constructor named) (is_empty named.params) con (ap is_empty (facts.constructors id named there built con).0)))
-
         by : (z : Bool) → is_built_in_constructor named ≡ z → Asked p h (cond z (on_value s (λ v rest. as_receiver v (λ receiver. Goes to l rest h)))
             (on_values (length named.params) s (λ args below. on_value below (λ v rest. as_receiver v (λ receiver. calls_method (method_at p (special p own named id)) (special p own named id) (receiver ∷ reverse args) to l rest h)))))
         by true e = k_value p h s _ (λ v rest is. k_receiver p h v _ (λ nn. tt))
         by false e = subst (λ (q : MethodId). Asked p h (on_values (length named.params) s (λ args below. on_value below (λ v rest. as_receiver v (λ receiver. calls_method (method_at p q) q (receiver ∷ reverse args) to l rest h))))) (sym itself)
-            (k_values p h (length named.params) s _ here (λ vs r tv tr b. k_value p h r _ (λ v rest is. k_receiver p h v _ (λ nn. k_method id named (v ∷ reverse vs) rest there (λ built. absurd (never e built))))))
+            (k_values p h (length named.params) s _ here (λ vs r tv tr b. k_value p h r _ (λ v rest is. k_receiver p h v _ (λ nn. k_method id named (v ∷ reverse vs) rest there (λ built.
+            let other = constructs_other p keeps form id named there built e con in
+            record {
+              plain = e;
+              other = other.0;
+              taken = λ t. absurd (false≢true (sym other.1 ∙ t));
+              first = λ f. nn;
+              there = ((subst (λ (x : List Value). AreThere h x) is tr).0, there_reverse h vs tv);
+            })))))
 
     specials : named.is_static ≡ false → is_constructor named ≡ false → may_name own named.is_private named.owner ≡ true → special_fits p own id named ≡ true → Asked p h (does p own (instr.Invokespecial id) to l s h)
     unfolding does

@@ -44,7 +44,7 @@ use Rattle.kilim_run_state.specs.declared.value.Token.TheVariants as token
 use Rattle.kilim_program.specs.Members.{named_class, named_type}
 use Rattle.kilim_run_state.specs.Machine.{Objects}
 use Rattle.kilim_program.specs.Members.{is_concrete}
-use Rattle.kilim_run_machine.specs.Natives.{is_text_method}
+use Rattle.kilim_run_machine.specs.Natives.{is_built_in_constructor, is_text_method}
 use Rattle.kilim_isolation_laws.proofs.sorts.Choosing.{of_object}
 use Rattle.kilim_isolation_laws.proofs.sorts.KindsOfClasses.{ClassFlow}
 use Rattle.kilim_isolation_laws.proofs.sorts.Sorted.{classes_flow, message_is_tree}
@@ -105,6 +105,18 @@ module _ (p : Program) (keeps : Keeps p) (form : p.form ≡ Plain) where
   -- what is built in has no code
   pub bare : (id : MethodId) (m : Method) → method_at p id ≡ Some m → m.built_in ≡ true → has_code m ≡ false
   bare id m there own = built_in_one p keeps form (λ (x : Method). has_code x ≡ false) (all_bare (length keeps.built_in.own_classes)) id m there own
+
+  -- a built-in constructor that takes something has a receiver, of another class than that of strings
+  OtherClass : Method → Type 0
+  OtherClass m = is_built_in_constructor m ≡ false → is_constructor m ≡ true → (is_text_method p m ≡ false) × (m.is_static ≡ false)
+
+  all_other : (n : ℕ) → AllByRecursion OtherClass (built_in_methods_in Plain n)
+  unfolding OtherClass
+  all_other n = ((λ a b. absurd (let z : true ≡ false = a in cc)), ((λ a b. absurd (let z : false ≡ true = b in cc)), ((λ a b. absurd (let z : false ≡ true = b in cc)), ((λ a b. absurd (let z : false ≡ true = b in cc)), ((λ a b. absurd (let z : true ≡ false = a in cc)), ((λ a b. absurd (let z : false ≡ true = b in cc)), ((λ a b. absurd (let z : false ≡ true = b in cc)), ((λ a b. absurd (let z : true ≡ false = a in cc)), ((λ a b. absurd (let z : false ≡ true = b in cc)), ((λ a b. absurd (let z : false ≡ true = b in cc)), ((λ a b. absurd (let z : false ≡ true = b in cc)), ((λ a b. absurd (let z : false ≡ true = b in cc)), ((λ a b. absurd (let z : false ≡ true = b in cc)), ((λ a b. absurd (let z : false ≡ true = b in cc)), ((λ a b. absurd (let z : false ≡ true = b in cc)), ((λ a b. absurd (let z : false ≡ true = b in cc)), ((λ a b. absurd (let z : false ≡ true = b in cc)), ((λ a b. absurd (let z : false ≡ true = b in cc)), constructors_too OtherClass n exception_numbers [] (λ c a b. absurd (let z : true ≡ false = a in cc)) tt))))))))))))))))))
+
+  pub constructs_other : (id : MethodId) (m : Method) → method_at p id ≡ Some m → m.built_in ≡ true → is_built_in_constructor m ≡ false → is_constructor m ≡ true → (is_text_method p m ≡ false) × (m.is_static ≡ false)
+  unfolding OtherClass
+  constructs_other id m there own = built_in_one p keeps form OtherClass (all_other (length keeps.built_in.own_classes)) id m there own
 
   -- ---- classes by their names
 

@@ -20,4 +20,5 @@ returns c = record {
   new_message = refl;
   put_raises = refl;
   caught_before = refl;
+  super_cuts = refl;
 }

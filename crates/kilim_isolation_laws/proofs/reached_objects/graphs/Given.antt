@@ -19,7 +19,7 @@ use Rattle.kilim_isolation_rules.specs.Calls.{arguments, is_free, is_not_free, i
 use Rattle.kilim_isolation_rules.specs.Marks.{names_no_root}
 use Rattle.kilim_isolation_rules.specs.Steps.{Argument, Free}
 use Rattle.kilim_isolation_laws.specs.graph_rows.Holds.{Fits, SlotFits, Sort, Tree, Word, named_by, refers, type_sort, unnamed}
-use Rattle.kilim_isolation_laws.specs.graph_rows.Outcome.{ArgsFit}
+use Rattle.kilim_isolation_laws.specs.graph_rows.Outcome.{ArgsFit, NoneFree}
 use Rattle.kilim_isolation_laws.proofs.graph_rows.Fields.{tree_sort}
 use Rattle.kilim_isolation_laws.proofs.graph_rows.Putting.{not_false, root_is}
 use Rattle.kilim_isolation_laws.proofs.graph_rows.Settle.{or_left, or_right}
@@ -77,3 +77,10 @@ module _ (p : Program) (h : Objects) (u : Named) (count : ℕ) (g : Graph) (at :
   gives_name args vs [] f free o w = absurd w
   gives_name args [] (q ∷ qs) f free o w = absurd w
   gives_name [] (v ∷ vs) (q ∷ qs) f free o w = absurd f
+
+-- where no parameter takes a tree away, none is given
+pub no_gift : (p : Program) (qs : List Parameter) (vs : List Value) (o : ℕ) → NoneFree p qs → Gives p qs vs o → ⊥
+no_gift p [] vs o free w = w
+no_gift p (q ∷ qs) [] o free w = w
+no_gift p (q ∷ qs) (v ∷ vs) o free (inl w) = free.0 w.0
+no_gift p (q ∷ qs) (v ∷ vs) o free (inr w) = no_gift p qs vs o free.1 w.1

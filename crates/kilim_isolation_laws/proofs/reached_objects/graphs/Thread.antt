@@ -1,5 +1,5 @@
 -- One move of a thread.
-use Rattle.std.proofs.Common.{◌≡◌, ℕ, zero, suc, Bool, true, false, not, cond, List, [], ◌∷◌, ◌++◌, map, length, Option, Some, None, Ok, refl, sym, ap, subst, ◌∙◌, true≢false}
+use Rattle.std.proofs.Common.{◌≡◌, ℕ, zero, suc, Bool, true, false, not, cond, List, [], ◌∷◌, ◌++◌, map, length, Option, Some, None, Ok, refl, sym, ap, subst, ◌∙◌, true≢false, inl, inr}
 use Rattle.std.specs.Prelude.{drop, nat_lt}
 use Rattle.std.specs.FinMap.{insert}
 use Rattle.kilim_program.specs.declared.class.Method.{Method}
@@ -35,8 +35,9 @@ use Rattle.kilim_isolation_rules.specs.Marks.{flow_mixes, given, stack_lives}
 use Rattle.kilim_isolation_rules.specs.Rules.{any_flow_mixes, deed, left_by, raised_deed}
 use Rattle.kilim_isolation_rules.specs.Steps.{Free}
 use Rattle.kilim_isolation.specs.Walks.{declared_to, entry_graph, entry_mixes, exits_by, is_throw, machine_of}
+use Rattle.kilim_isolation_laws.specs.graph_rows.Facts.{IsGivenAway}
 use Rattle.kilim_isolation_laws.specs.graph_rows.Holds.{sort, Holds, KindsFlow, Stands, Waiting, named_by, refers, trees, waiting_named}
-use Rattle.kilim_isolation_laws.specs.graph_rows.Outcome.{EffectHolds, Left, NativeHolds, ReturnHolds}
+use Rattle.kilim_isolation_laws.specs.graph_rows.Outcome.{EffectHolds, HandsOn, Left, NativeHolds, ReturnHolds}
 use Rattle.kilim_isolation_laws.proofs.graph_rows.Fields.{slot_sort}
 use Rattle.kilim_isolation_laws.proofs.graph_rows.Giving.{given_left}
 use Rattle.kilim_isolation_laws.proofs.graph_rows.Making.{waiting_grown, zero_holds}
@@ -48,7 +49,7 @@ use Rattle.kilim_isolation_laws.proofs.graph_rows.Taking.{taken_left}
 use Rattle.kilim_isolation_laws.proofs.graph_rows.Words.{object_h}
 use Rattle.kilim_isolation_laws.specs.reached_objects.graphs.Threads.{AllWaitFor, AskFits, Becomes, EndFits, FramesFit, Gives, Handled, IsSound, Listed, MoveFits, MovesKeep, Passes, ThreadFits, TopIsVerified, Typings, Waits, keepers}
 use Rattle.kilim_isolation_laws.proofs.reached_objects.live.Along.{among_by, some_by}
-use Rattle.kilim_isolation_laws.proofs.reached_objects.graphs.Given.{gives_name}
+use Rattle.kilim_isolation_laws.proofs.reached_objects.graphs.Given.{gives_name, no_gift}
 use Rattle.kilim_isolation_laws.proofs.reached_objects.graphs.Places.{flow_passed, settled}
 use Rattle.kilim_isolation_laws.proofs.reached_objects.graphs.Raising.{unwound_fit}
 
@@ -238,21 +239,21 @@ module _ (p : Program) (typings : Typings) (listed : Listed) (kept : Option ℕ)
       mid = popped w.takes (after_call p w.passed w.graph)
 
       abbrev mid_waiting : Waiting
-      mid_waiting = record { method = t.top_fits.method; types = record w.types { stack = drop w.takes w.types.stack }; graph = popped w.takes (after_call p w.passed w.graph); at = w.at; locals = ls; stack = st }
+      mid_waiting = record { method = t.top_fits.method; types = w.kept; graph = popped w.takes (after_call p w.passed w.graph); at = w.at; locals = ls; stack = st }
 
       abbrev mid_types : Types
-      mid_types = record w.types { stack = drop w.takes w.types.stack }
+      mid_types = w.kept
 
-      waiting : Holds p t.top_fits.method (record w.types { stack = drop w.takes w.types.stack }) (popped w.takes (after_call p w.passed w.graph)) w.at h' ls st t.below
+      waiting : Holds p t.top_fits.method w.kept (popped w.takes (after_call p w.passed w.graph)) w.at h' ls st t.below
       waiting = record { heap = w.stands.holds.heap; forest = w.stands.holds.forest; frames = w.frames; tidy = w.waits.tidy; slots = w.waits.slots; waits = w.stands.holds.waits }
 
       -- with a result of that type
       goes : (result : Option Ty) → w.callee.result ≡ result → (h'' : Objects) (st' : List Value) →
-          Left p t.top_fits.method (record w.types { stack = result_types result ++ drop w.takes w.types.stack }) (given_result p result (popped w.takes (after_call p w.passed w.graph))) h'' ls st' t.below →
+          Left p t.top_fits.method (record w.kept { stack = result_types result ++ w.kept.stack }) (given_result p result (popped w.takes (after_call p w.passed w.graph))) h'' ls st' t.below →
           ThreadFits p typings listed kept h'' (record { method = top.method; place = place; locals = ls; stack = st' }) frames
       goes result is h'' st' left = go place among h'' ls st'
-          (subst (λ z. Left p t.top_fits.method z (deed p t.top_fits.method t.top_fits.graph (typings top.method top.place) i).graph h'' ls st' t.below) (sym (w.after ∙ ap (λ z. record w.types { stack = result_types z ++ drop w.takes w.types.stack }) is))
-          (subst (λ z. Left p t.top_fits.method (record w.types { stack = result_types result ++ drop w.takes w.types.stack }) z h'' ls st' t.below)
+          (subst (λ z. Left p t.top_fits.method z (deed p t.top_fits.method t.top_fits.graph (typings top.method top.place) i).graph h'' ls st' t.below) (sym (w.after ∙ ap (λ z. record w.kept { stack = result_types z ++ w.kept.stack }) is))
+          (subst (λ z. Left p t.top_fits.method (record w.kept { stack = result_types result ++ w.kept.stack }) z h'' ls st' t.below)
           (sym (w.left ∙ ap (λ z. given_result p z (popped w.takes (after_call p w.passed w.graph))) is)) left))
 
       null_news : (v : Value) → refers v ≡ None → IsNews p h' (named_by (popped w.takes (after_call p w.passed w.graph)) w.at) (refers v) × AllBelow (trees p h') (refers v) (map waiting_named t.below)
@@ -264,8 +265,25 @@ module _ (p : Program) (typings : Typings) (listed : Listed) (kept : Option ℕ)
               no : (o : ℕ) → None ≡ Some o → ⊥
               no o z = cc
 
-      of_args : (o : ℕ) → Gives p (parameters_of w.callee) args o → (nb : ℕ) × (arguments p w.passed ≡ Free nb ∷ []) × Names (named_by w.graph w.at) nb o × ((node_at w.graph.nodes nb).standing ≡ Root)
-      of_args o q = gives_name p h' (named_by w.graph w.at) (length w.graph.nodes) w.graph w.at refl w.passed args (parameters_of w.callee) w.fits w.not_free o q
+      -- the node of what is given away
+      abbrev Given : ℕ → Type 0
+      Given o = (nb : ℕ) × (arguments p w.passed ≡ Free nb ∷ []) × Names (named_by w.graph w.at) nb o × ((node_at w.graph.nodes nb).standing ≡ Root)
+
+      of_args : HandsOn p t.top_fits.method w.types w.kept w.graph w.at h' w.passed w.callee args st w.takes → (o : ℕ) → Gives p (parameters_of w.callee) args o → Given o
+      of_args hands o q = gives_name p h' (named_by w.graph w.at) (length w.graph.nodes) w.graph w.at refl w.passed args (parameters_of w.callee) hands.fits hands.not_free o q
+
+      given_node : (o : ℕ) → Gives p (parameters_of w.callee) args o → Given o
+      given_node o q = elim w.hands [ inl hands ↦ of_args hands o q | inr free ↦ absurd (no_gift p (parameters_of w.callee) args o free q) ]
+
+      given_away : (o : ℕ) (q : Gives p (parameters_of w.callee) args o) (h'' : Objects) → IsGivenAway p h' h'' o → Left p t.top_fits.method w.kept (popped w.takes (after_call p w.passed w.graph)) h'' ls st t.below
+      given_away o q h'' away = elim w.hands [
+        | inl hands ↦
+            let n = of_args hands o q in
+            subst (λ z. Left p t.top_fits.method z (popped w.takes (after_call p w.passed w.graph)) h'' ls st t.below) (sym hands.kept_is)
+            (subst (λ z. Left p t.top_fits.method (record w.types { stack = drop w.takes w.types.stack }) (popped w.takes (calls.after_arguments z w.graph)) h'' ls st t.below) (sym n.1)
+            (given_left p t.top_fits.method w.types w.graph w.at h' h'' ls w.values t.below w.stands n.0 o n.2 n.3 away (drop w.takes w.types.stack) (drop w.takes w.graph.stack) st hands.rest))
+        | inr free ↦ absurd (no_gift p (parameters_of w.callee) args o free q)
+      ]
 
       asks : AskFits p typings listed kept id args (goes_on top place ls st ∷ frames) h'
       asks = record {
@@ -277,21 +295,18 @@ module _ (p : Program) (typings : Typings) (listed : Listed) (kept : Option ℕ)
             unwound_fit p typings listed kept s (insert h' n (new_object p c)) c n thrown (goes_on top place ls st ∷ frames) (mid_waiting ∷ t.below) w.callee.result (
               t.top_fits.method.result,
               comes_to_wait top.method t.top_fits.method t.top_fits.is t.top_fits.coded t.top_fits.first t.top_fits.begins top.place t.top_fits.graph t.top_fits.reaches i to here flows.0 flows.1 place among behind mid_waiting refl
-                  w.callee.result w.after w.left w.raised_is (λ k. ap (λ (z : Types). sort p t.top_fits.method (peek z.locals k)) (sym w.before)) ls st refl refl,
+                  w.callee.result w.after w.left w.raised_is w.sorts ls st refl refl,
               subst (AllWaitFor p typings listed kept frames t.below) (sym t.top_fits.gives) t.waits,
             ) more.heap more.forest more.frames more.waits;
         answered = λ ty v is fits null. goes (Some ty) is h' (v ∷ st)
-            (value_comes p t.top_fits.method (record w.types { stack = drop w.takes w.types.stack }) (popped w.takes (after_call p w.passed w.graph)) w.at h' ls st t.below waiting w.waits.within ty v fits (λ kd. null_news v (null kd)));
+            (value_comes p t.top_fits.method w.kept (popped w.takes (after_call p w.passed w.graph)) w.at h' ls st t.below waiting w.waits.within ty v fits (λ kd. null_news v (null kd)));
         whole = λ o q.
-            let n = of_args o q in
+            let n = given_node o q in
             (w.stands.holds.frames.0.there n.0 o n.2, λ x j e. w.stands.holds.frames.0.whole n.0 o x j n.2 n.3 e);
-        gives = λ none o q h'' away.
-            let n = of_args o q in
-            goes None none h'' st (subst (λ z. Left p t.top_fits.method (record w.types { stack = drop w.takes w.types.stack }) (popped w.takes (calls.after_arguments z w.graph)) h'' ls st t.below) (sym n.1)
-            (given_left p t.top_fits.method w.types w.graph w.at h' h'' ls w.values t.below w.stands n.0 o n.2 n.3 away (drop w.takes w.types.stack) (drop w.takes w.graph.stack) st w.rest));
+        gives = λ none o q h'' away. goes None none h'' st (given_away o q h'' away);
         comes = λ ty is h'' n dims stuff taken sort tree. goes (Some ty) is h'' (Ref n ∷ st)
-            (subst (λ z. Left p t.top_fits.method (record w.types { stack = vtype ty ∷ drop w.takes w.types.stack }) (Rattle.kilim_isolation_rules.specs.Marks.given z (popped w.takes (after_call p w.passed w.graph))) h'' ls (Ref n ∷ st) t.below) (sym tree)
-            (taken_left p t.top_fits.method (record w.types { stack = drop w.takes w.types.stack }) (popped w.takes (after_call p w.passed w.graph)) w.at h' h'' ls st t.below waiting w.waits.within n dims stuff taken (vtype ty) (slot_sort p t.top_fits.method ty ∙ sort)));
+            (subst (λ z. Left p t.top_fits.method (record w.kept { stack = vtype ty ∷ w.kept.stack }) (Rattle.kilim_isolation_rules.specs.Marks.given z (popped w.takes (after_call p w.passed w.graph))) h'' ls (Ref n ∷ st) t.below) (sym tree)
+            (taken_left p t.top_fits.method w.kept (popped w.takes (after_call p w.passed w.graph)) w.at h' h'' ls st t.below waiting w.waits.within n dims stuff taken (vtype ty) (slot_sort p t.top_fits.method ty ∙ sort)));
       }
 
     pub move_fits : (e : Effect) → EffectHolds p t.top_fits.method (edges i to) flows.0 (deed p t.top_fits.method t.top_fits.graph (typings top.method top.place) i).graph t.top_fits.at t.below h t.top_fits.graph.nodes to (typings top.method top.place) (raised_deed p t.top_fits.graph (typings top.method top.place) i).graph e →
