@@ -474,7 +474,7 @@ module _ (p : Program) (facts : Facts p) (built : (id : MethodId) (callee : Meth
         let x = construct callee before after r in
         let parts = and_parts callee.built_in (is_constructor callee && is_empty callee.params) one in
         let none = nil_is callee.params (and_parts (is_constructor callee) (is_empty callee.params) parts.1).1 in
-        let gives_none = (facts.constructors id callee there parts.0 con).1 in
+        let gives_none = (facts.constructors id callee there parts.0 con).0 in
         let count : length (arguments callee) ≡ 0 = argument_count callee ∙ ap length none in
         on_this After tt (λ c. tt) callee (result_types callee.result) _ x.made vs (subst (λ (n : ℕ). StackSo b m (drop n f.stack) vs) (sym count) frame.stack) _ (λ v rest k. by x gives_none v rest k)
       where
