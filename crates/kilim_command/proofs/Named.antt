@@ -8,8 +8,8 @@ use Rattle.kilim_outside.specs.declared.folder.FolderFault.TheVariants as folder
 use Rattle.kilim_outside.specs.Causes.{FolderCause}
 use Rattle.kilim_outside.specs.Files.{Files, ReadsFile, content_of, file_limit}
 use Rattle.kilim_command.specs.Reads.{OneFailed, ReadsCause, WasRead, WereRead, WereReadBehind}
-use Rattle.kilim_command.specs.grammar.Parts.{journal_read}
-use Rattle.kilim_command.specs.grammar.Words.{Request, Check, Weave, Run, Replay, Demo, class_files, files_read}
+use Rattle.kilim_command.specs.grammar.Parts.{other_read}
+use Rattle.kilim_command.specs.grammar.Words.{Request, Check, Weave, Run, Replay, Save, Resume, Demo, class_files, files_read}
 
 pub length_map : {A B : Type 0} (f : A → B) (xs : List A) → length (map f xs) ≡ length xs
 length_map f [] = refl
@@ -87,21 +87,23 @@ nothing_behind contents names read none = subst (λ (ns : List (List ℕ)). Were
 pub one_behind : (contents : Option Files) (names : List (List ℕ)) (name bytes : List ℕ) (read all : List (List ℕ)) → names ≡ name ∷ [] → WasRead contents name bytes → all ≡ read ++ bytes ∷ [] → WereReadBehind contents names read all
 one_behind contents names name bytes read all one was are = subst (λ (ns : List (List ℕ)). WereReadBehind contents ns read all) (sym one) (record { more = bytes ∷ []; read = (was, tt); are = are })
 
-files_in_parts : (r : Request) → class_files r ++ journal_read r ≡ files_read r
+files_in_parts : (r : Request) → class_files r ++ other_read r ≡ files_read r
 files_in_parts (Check files) = append-nil files
 files_in_parts (Weave to files) = append-nil files
 files_in_parts (Run main workers steps args files) = append-nil files
 files_in_parts (Replay main journal steps args files) = refl
+files_in_parts (Save main image entries steps args files) = append-nil files
+files_in_parts (Resume image workers) = refl
 files_in_parts (Demo number workers) = refl
 
-all_were_read : (r : Request) (contents now : Option Files) (names behind read all : List (List ℕ)) → names ≡ class_files r → behind ≡ journal_read r → now ≡ contents → WereRead contents names read → WereReadBehind now behind read all → WereRead contents (files_read r) all
+all_were_read : (r : Request) (contents now : Option Files) (names behind read all : List (List ℕ)) → names ≡ class_files r → behind ≡ other_read r → now ≡ contents → WereRead contents names read → WereReadBehind now behind read all → WereRead contents (files_read r) all
 all_were_read r contents now names behind read all first last same were also =
     let more = subst (λ (c : Option Files). WereRead c behind also.more) same also.read in
     let joined = were_joined contents names behind read also.more were more in
     let named = ap (λ (ns : List (List ℕ)). ns ++ behind) first ∙ (ap (λ (ns : List (List ℕ)). class_files r ++ ns) last ∙ files_in_parts r) in
     subst (λ (bs : List (List ℕ)). WereRead contents (files_read r) bs) (sym also.are) (subst (λ (ns : List (List ℕ)). WereRead contents ns (read ++ also.more)) named joined)
 
-pub all_read_then : (r : Request) (contents now : Option Files) (names behind read : List (List ℕ)) (result : Result (List (List ℕ)) FolderFault) → names ≡ class_files r → behind ≡ journal_read r → now ≡ contents → WereRead contents names read →
+pub all_read_then : (r : Request) (contents now : Option Files) (names behind read : List (List ℕ)) (result : Result (List (List ℕ)) FolderFault) → names ≡ class_files r → behind ≡ other_read r → now ≡ contents → WereRead contents names read →
     IfOk result (WereReadBehind now behind read) → IfOk result (WereRead contents (files_read r))
 all_read_then r contents now names behind read (Ok all) first last same were also = all_were_read r contents now names behind read all first last same were also
 all_read_then r contents now names behind read (Err e) first last same were also = tt
@@ -131,22 +133,22 @@ one_in_back names behind start after one =
     let is = one.1 in
     (one.0, (length names + is.0, let lt = is.1 in omega (arith, lt, length-append names behind), in_back names behind is.0 one.0 ∙ is.2), one.2)
 
-in_all : (r : Request) (names behind : List (List ℕ)) (start after : List FailedCall) → names ≡ class_files r → behind ≡ journal_read r → OneFailed (names ++ behind) start after → OneFailed (files_read r) start after
+in_all : (r : Request) (names behind : List (List ℕ)) (start after : List FailedCall) → names ≡ class_files r → behind ≡ other_read r → OneFailed (names ++ behind) start after → OneFailed (files_read r) start after
 in_all r names behind start after first last one =
     subst (λ (ns : List (List ℕ)). OneFailed ns start after) (ap (λ (ns : List (List ℕ)). ns ++ behind) first ∙ (ap (λ (ns : List (List ℕ)). class_files r ++ ns) last ∙ files_in_parts r)) one
 
 pub first_failed : {T U : Type 0} (r : Request) (names : List (List ℕ)) (start after : List FailedCall) (e : FolderFault) → names ≡ class_files r → ReadsCause {T = T} names start after (Err e) → ReadsCause {T = U} (files_read r) start after (Err e)
 first_failed r names start after e first cause = record {
   own = own_as cause.own;
-  failed = λ failed. in_all r names (journal_read r) start after first refl (one_in_front names (journal_read r) start after (cause.failed (failed_again e folder.Failed failed)));
+  failed = λ failed. in_all r names (other_read r) start after first refl (one_in_front names (other_read r) start after (cause.failed (failed_again e folder.Failed failed)));
   ok = tt;
 }
   where
     own_as : (after ≡ start) ⊎ OneFailed names start after → (after ≡ start) ⊎ OneFailed (files_read r) start after
     own_as (inl e) = inl e
-    own_as (inr one) = inr (in_all r names (journal_read r) start after first refl (one_in_front names (journal_read r) start after one))
+    own_as (inr one) = inr (in_all r names (other_read r) start after first refl (one_in_front names (other_read r) start after one))
 
-pub last_failed : {T : Type 0} (r : Request) (behind : List (List ℕ)) (start mid after : List FailedCall) (result : Result T FolderFault) → behind ≡ journal_read r → mid ≡ start → ReadsCause behind mid after result → ReadsCause (files_read r) start after result
+pub last_failed : {T : Type 0} (r : Request) (behind : List (List ℕ)) (start mid after : List FailedCall) (result : Result T FolderFault) → behind ≡ other_read r → mid ≡ start → ReadsCause behind mid after result → ReadsCause (files_read r) start after result
 last_failed {T} r behind start mid after result last same cause =
     subst (λ (calls : List FailedCall). ReadsCause {T = T} (files_read r) calls after result) same (record { own = own_as cause.own; failed = λ failed. placed (cause.failed failed); ok = cause.ok })
   where

@@ -2,7 +2,7 @@
 use Rattle.std.specs.Prelude.{ℕ, List, Option, Some, None}
 use Rattle.kilim_run_journal.specs.declared.entry.Entry.{Entry}
 use Rattle.kilim_run_journal.specs.Text.{journal_text}
-use Rattle.kilim_command.specs.grammar.Words.{Request, Check, Weave, Run, Replay, Demo}
+use Rattle.kilim_command.specs.grammar.Words.{Request, Check, Weave, Run, Replay, Save, Resume, Demo}
 use Rattle.kilim_command.specs.DemoLine.{demo_line}
 
 -- the number of the demo, where one is asked for
@@ -11,6 +11,8 @@ demo_number (Check names) = None
 demo_number (Weave to names) = None
 demo_number (Run main workers steps args names) = None
 demo_number (Replay main journal steps args names) = None
+demo_number (Save main image entries steps args names) = None
+demo_number (Resume image workers) = None
 demo_number (Demo number workers) = Some number
 
 -- what is written of a run: its journal, or the line of the demo of a number

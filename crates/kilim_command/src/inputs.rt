@@ -85,7 +85,7 @@ pub fn read_asked<F: Folder>(
     ensures cause { ReadsCause (files_read (meant asked.now)) (F.faults files.old) (F.faults files.new) result }
 {
     match read_all(alloc, asked.files(), files) {
-        Ok(read) => read_behind(alloc, asked.journal(), read, files),
+        Ok(read) => read_behind(alloc, asked.other(), read, files),
         Err(fault) => Err(fault),
     }
 }

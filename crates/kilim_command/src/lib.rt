@@ -16,7 +16,7 @@ mod writing;
 pub use inputs::{read_all, read_asked};
 pub use line::demo_line;
 pub use program::{complain, own_text, show, words};
-pub use report::{accepted_line, no_main};
+pub use report::{accepted_line, no_main, utf16_of};
 pub use request::{Start, demo_number, start_of, workers_of};
 pub use run_text::text_of_run;
 pub use status::{DONE, NO_MEMORY, REPORTED, UNREAD, UNWRITTEN, USAGE};

@@ -22,6 +22,8 @@ pub fn workers_of(asked: &Asked<'_>) -> u64
         Asked::Weave(_) => 1,
         Asked::Run(words) => words.workers,
         Asked::Replay(_) => 1,
+        Asked::Save(_) => 1,
+        Asked::Resume(words) => words.workers,
         Asked::Demo(words) => words.workers,
     }
 }

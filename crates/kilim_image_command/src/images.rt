@@ -1,13 +1,15 @@
 //! An image and its bytes, or the line of why not.
 
-ghost use Rattle.std.specs.Prelude.{◌≡◌, IfOk};
-ghost use Rattle.kilim_image.specs.Journal.{ImageFits, IsImageFault};
-ghost use Rattle.kilim_image.specs.Text.{image_text};
+ghost use Rattle.std.specs.Prelude.{◌≡◌, IfOk, List};
+ghost use Rattle.kilim_image.specs.Journal.{IsImageFault};
+ghost use Rattle.kilim_image.specs.declared.fault.ImageFault.TheVariants as fault;
+ghost use Rattle.kilim_image.specs.declared.image.Run.{Run as Setting};
 ghost use Rattle.kilim_image.specs.Writing.{HasSize, IsWritten};
-ghost use Rattle.kilim_image_command.specs.Images.{IsFaultReport, IsSizeReport};
+ghost use Rattle.kilim_image_command.specs.Images.{IsFaultReport, IsImageOf, IsSizeReport};
 ghost use Rattle.kilim_image_command.specs.Lines.{size_line};
 ghost use Rattle.kilim_run_journal.specs.Readable.{IsReadable};
 ghost use Rattle.kilim_run_journal.specs.Text.{journal_text};
+ghost use Rattle.kilim_run_journal.specs.declared.entry.Entry.{Entry as Event};
 ghost use Rattle.kilim_stages.specs.Parts.{IfReport, Refused};
 
 use crate::lines::{fault_line, size_line};
@@ -17,7 +19,8 @@ use std::alloc::Global;
 
 // The bytes aren't an image.
 fn faulty(alloc: Global, found: ImageFault, bytes: &[u8]) -> Refusal
-    requires { IsImageFault bytes.now found }
+    requires is { IsImageFault bytes.now found }
+    requires none { (run : Setting) (journal : List Event) → IsImageOf bytes.now run journal → found ≡ fault.Memory }
     ensures { Refused result (IsFaultReport bytes.now) }
 {
     let _ = bytes;
@@ -39,7 +42,7 @@ fn too_large(alloc: Global, size: usize) -> Refusal
 
 /// The image that bytes are, or the line of why they are none: the first fault of `ImageFault`, in its order.
 pub fn image_of(alloc: Global, bytes: &[u8]) -> Result<Image, Refusal>
-    ensures image { IfOk result (λ image. ImageFits image.run image.journal.items × (bytes.now ≡ image_text image.run (journal_text image.journal.items))) }
+    ensures image { IfOk result (λ image. IsImageOf bytes.now image.run image.journal.items) }
     ensures report { IfReport result (IsFaultReport bytes.now) }
 {
     match read(alloc, bytes) {

@@ -1,8 +1,15 @@
-//! An image of a run that was stopped and its bytes, or the line of why not.
+//! The commands `save` and `resume`: a run is stopped and becomes an image, and goes on from its image.
 #![tactic(auto)]
 
 mod images;
+mod laws;
 mod lines;
+mod programs;
+mod resuming;
+mod saving;
 
-pub use images::{image_bytes, image_of};
-pub use lines::replay_line;
+pub use laws::{
+    never_begun_and_reported, never_gone_on_and_reported, never_saved_and_reported, woven_is_served,
+};
+pub use resuming::{Stopped, resume_run, resume_run_alone, stopped_run};
+pub use saving::{Saved, save_files};

@@ -7,7 +7,6 @@ mod kept;
 mod machine;
 mod mailboxes;
 mod rest;
-mod same;
 
 pub use checker::check;
 pub use kilim_replay_laws::Verdict;

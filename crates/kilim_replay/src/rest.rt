@@ -12,10 +12,10 @@ ghost use Rattle.kilim_replay.specs.Rest.{AsksAll, AsksOne, HasCome, HasRested, 
 
 use crate::machine::{Machine, Task, exchange};
 use crate::mailboxes::Mailboxes;
-use crate::same::same_entry;
 use kilim_program::{BoxName, ClassId, Program};
 use kilim_replay_thread::{Came, Live, World, reach};
 use kilim_run_journal::{Act, Entry};
+use kilim_run_same::same_entry;
 use kilim_run_state::{EndCause, Heap, Limits};
 use kilim_run_trees::shape_at;
 use kilim_units::{NoMemory, no_room};

@@ -52,5 +52,5 @@ pub is_course : EntriesAreReadable → (set : Setting) (few : ℕ) (es : List En
 is_course readable set few es stopped fits = record { stopped = stopped; readable = readable set es stopped.state stopped.replay; fits = fits }
 
 pub is_resumed : MovedIsWhole → RunsAreReadable → (Of : Setting → Type 0) (set : Setting) → Of set → (W : Program) (marks : List (List Bool)) → CanServe set W marks → (given : List Entry) (r : Resumed) → WentOn Of given r → ResumedFits r → IsResumed set given r
-is_resumed law readable Of set of W marks can given (resumed.Journal es) went fits = (is_journal law readable set W marks can es.items (went.0 set of) fits, went.1)
+is_resumed law readable Of set of W marks can given (resumed.Journal es) went fits = let here = went.0 set of in (is_journal law readable set W marks can es.items here.0 fits, (went.1, here.1))
 is_resumed law readable Of set of W marks can given (resumed.Differs n) went fits = went set of

@@ -8,7 +8,7 @@ use Rattle.kilim_run_journal.specs.Readable.{IsReadable, JournalFits}
 use Rattle.kilim_run_model.specs.State.{Setting}
 use Rattle.kilim_run_model.specs.Moving.{Moving, MovedAtRest, MovedReplay}
 use Rattle.kilim_run_model.specs.Runs.{Whole}
-use Rattle.kilim_run_follow.specs.Follow.{DiffersAt}
+use Rattle.kilim_run_follow.specs.Follow.{CanCome, DiffersAt}
 use Rattle.kilim_run_workers.specs.Given.{BeginsWith, EndsInOne}
 use Rattle.kilim_run_follow.specs.declared.resuming.Resumed.{Resumed}
 use Rattle.kilim_run_follow.specs.declared.resuming.Resumed.TheVariants as resumed
@@ -37,9 +37,9 @@ pub record IsCourseOf (set : Setting) (few : ℕ) (journal : List Entry) : Type 
   pub readable : IsReadable journal
   pub fits : JournalFits journal
 
--- the journal of a whole run that begins with the given one, or the line of its first entry that can't come
+-- the journal of a whole run that begins with the given one, which leads to a state, or the line of its first entry that can't come
 abbrev pub IsResumed : Setting → List Entry → Resumed → Type 0
-IsResumed set given (resumed.Journal es) = IsJournalOf set es.items × BeginsWith given es.items
+IsResumed set given (resumed.Journal es) = IsJournalOf set es.items × (BeginsWith given es.items × CanCome set given)
 IsResumed set given (resumed.Differs n) = DiffersAt set given n
 
 -- each number of its journal is in the range of its type

@@ -1,10 +1,11 @@
 -- The front of a journal that can be replayed can be replayed; and a mailbox that gets a bound there is new.
-use Rattle.std.proofs.Common.{◌≡◌, ℕ, zero, suc, ◌<◌, ◌&&◌, not, ◌==◌, nat_lt, List, [], ◌∷◌, ◌++◌, Some, refl, sym, ap, subst, ◌∙◌, inl, inr, arith, length, append_assoc}
+use Rattle.std.proofs.Common.{◌≡◌, ℕ, zero, suc, ◌<◌, ◌&&◌, not, ◌==◌, nat_lt, List, [], ◌∷◌, ◌++◌, Option, Some, refl, sym, ap, subst, ◌∙◌, inl, inr, arith, length, append_assoc}
 use Rattle.std.specs.Prelude.{slice_get}
 use Rattle.std.proofs.lemmas.Bool.Decides.{nat_tests}
 use Rattle.std.proofs.lemmas.List.{append-nil}
 use Rattle.kilim_lemmas.proofs.Lists.{set_there, get_front}
 use Rattle.kilim_program.specs.declared.names.BoxName.{BoxName}
+use Rattle.kilim_program.specs.Names.{◌>>=◌}
 use Rattle.kilim_run_state.specs.declared.value.Token.{Token}
 use Rattle.kilim_run_journal.specs.declared.entry.Act.{Act}
 use Rattle.kilim_run_journal.specs.declared.entry.Act.TheVariants.{Put, Take, Empty, Start, Print, End, Wait, Bound}
@@ -143,6 +144,48 @@ pub full_front : (set : Setting) (es more : List Entry) (b : Books) → FullSaid
 full_front set [] more b full = tt
 full_front set (e ∷ es) more b full = (full.0, λ mid goes. full_front set es more mid (full.1 mid goes))
 
+-- ---- the state to which the front of a journal leads
+
+module _ (set : Setting) (before : List Entry) (mid : Books) (more : List Entry) (s : Moving) (front : books_from first_books before ≡ Some mid) (rest : books_from mid more ≡ Some s.books) (full : FullSaid set first_books before)
+    (each : length s.lones ≡ length s.books.courses) (lones : (t : ℕ) (c : Course) (l : Lone) → slice_get s.books.courses t ≡ Some c → slice_get s.lones t ≡ Some l → IsLone set t c l) where
+  -- the thread of a course at the end
+  last_lone : (u : ℕ) (y : Course) → slice_get s.books.courses u ≡ Some y → (l : Lone) × IsLone set u y l
+  last_lone u y there =
+      let within = got_within s.books.courses u y there in
+      let l = some_lone s.lones u (omega (arith, within, each)) in
+      (l.0, lones u y l.0 there l.1)
+    where
+      some_lone : (ls : List Lone) (k : ℕ) → k < length ls → (l : Lone) × (slice_get ls k ≡ Some l)
+      some_lone [] k lt = absurd (omega arith)
+      some_lone (x ∷ ls) zero lt = (x, refl)
+      some_lone (x ∷ ls) (suc k) lt = some_lone ls k (omega arith)
+
+  front_lone : (u : ℕ) (c : Course) → slice_get mid.courses u ≡ Some c → (l : Lone) × IsLone set u c l
+  front_lone u c there =
+      let g : GrowsIn s.books u c = all_grow more mid s.books rest u c there in
+      let l = last_lone u g.0 g.1 in
+      let m = lone_before set u c g.2.0 l.0 (subst (λ (z : Course). IsLone set u z l.0) g.2.1 l.1) in
+      (m.lone, m.is)
+
+  front_replay : (m : Moving) × (m.books ≡ mid) × MovedReplay set before m
+  front_replay =
+      let ls = lones_of (λ u c l. IsLone set u c l) mid.courses front_lone in
+      (record { books = mid; lones = ls.0 }, refl, record { books = front; full = full; each = ls.1; lones = ls.2 })
+
+books_apart : (es more : List Entry) (b last : Books) → books_from b (es ++ more) ≡ Some last → (mid : Books) × (books_from b es ≡ Some mid) × (books_from mid more ≡ Some last)
+books_apart [] more b last e = (b, refl, e)
+books_apart (entry ∷ es) more b last e =
+    let first = bind_some (books_after b entry) (λ (mid : Books). books_from mid (es ++ more)) last e in
+    let r = books_apart es more first.0 last first.2 in
+    (r.0, ap (λ (o : Option Books). o >>= λ (mid : Books). books_from mid es) first.1 ∙ r.1, r.2)
+
+-- what is replayed is so of each front too
+pub front_replays : (set : Setting) (es more : List Entry) (v : Moving) → MovedReplay set (es ++ more) v → (m : Moving) × MovedReplay set es m
+front_replays set es more v r =
+    let a = books_apart es more first_books v.books r.books in
+    let f = front_replay set es a.0 more v a.1 a.2 (full_front set es more first_books r.full) r.each r.lones in
+    (f.0, f.2)
+
 -- ---- a bound
 
 abbrev act_box : BoxName → Act → BoxName
@@ -169,30 +212,6 @@ bound_next set Stands box n taken after e = absurd (cc)
 
 module _ (set : Setting) (new : BoundsAreNew set) (before : List Entry) (e : Entry) (after : List Entry) (mid : Books) (s : Moving) (front : books_from first_books before ≡ Some mid) (rest : books_from mid (e ∷ after) ≡ Some s.books) (full : FullSaid set first_books before) (each : length s.lones ≡ length s.books.courses)
     (lones : (t : ℕ) (c : Course) (l : Lone) → slice_get s.books.courses t ≡ Some c → slice_get s.lones t ≡ Some l → IsLone set t c l) where
-  -- the thread of a course at the end
-  last_lone : (u : ℕ) (y : Course) → slice_get s.books.courses u ≡ Some y → (l : Lone) × IsLone set u y l
-  last_lone u y there =
-      let within = got_within s.books.courses u y there in
-      let l = some_lone s.lones u (omega (arith, within, each)) in
-      (l.0, lones u y l.0 there l.1)
-    where
-      some_lone : (ls : List Lone) (k : ℕ) → k < length ls → (l : Lone) × (slice_get ls k ≡ Some l)
-      some_lone [] k lt = absurd (omega arith)
-      some_lone (x ∷ ls) zero lt = (x, refl)
-      some_lone (x ∷ ls) (suc k) lt = some_lone ls k (omega arith)
-
-  front_lone : (u : ℕ) (c : Course) → slice_get mid.courses u ≡ Some c → (l : Lone) × IsLone set u c l
-  front_lone u c there =
-      let g : GrowsIn s.books u c = all_grow (e ∷ after) mid s.books rest u c there in
-      let l = last_lone u g.0 g.1 in
-      let m = lone_before set u c g.2.0 l.0 (subst (λ (z : Course). IsLone set u z l.0) g.2.1 l.1) in
-      (m.lone, m.is)
-
-  front_replay : (m : Moving) × (m.books ≡ mid) × MovedReplay set before m
-  front_replay =
-      let ls = lones_of (λ u c l. IsLone set u c l) mid.courses front_lone in
-      (record { books = mid; lones = ls.0 }, refl, record { books = front; full = full; each = ls.1; lones = ls.2 })
-
   pub first_bound : (box : BoxName) (n : ℕ) → e.act ≡ Bound box n → IsNowhere box before
   first_bound box n is =
       let first = bind_some (books_after mid e) (λ (z : Books). books_from z after) s.books rest in
@@ -203,11 +222,11 @@ module _ (set : Setting) (new : BoundsAreNew set) (before : List Entry) (e : Ent
       let is-d : add.deed ≡ d = λ i. record { act = (add.act ∙ is) i; taken = add.deed.taken } in
       let there : slice_get first.0.courses e.task ≡ Some (further c add.deed) = add.there e.task (further c add.deed) (set_there mid.courses e.task c (further c add.deed) course.1) in
       let g : GrowsIn s.books e.task (further c add.deed) = all_grow after first.0 s.books first.2 e.task (further c add.deed) there in
-      let l = last_lone e.task g.0 g.1 in
+      let l = last_lone set before mid (e ∷ after) s front rest full each lones e.task g.0 g.1 in
       let m = lone_before set e.task (further c add.deed) g.2.0 l.0 (subst (λ (z : Course). IsLone set e.task z l.0) g.2.1 l.1) in
       let k = lone_before set e.task c (add.deed ∷ []) m.lone m.is in
       let next = next_deed set e.task k.lone m.lone add.deed k.rest in
       let done : done_by set (next_action set e.task k.lone) d ≡ Some (record { act = Bound box n; after = next.0 }) = subst (λ (z : Deed). done_by set (next_action set e.task k.lone) z ≡ Some (record { act = z.act; after = next.0 })) is-d next.1 in
       let x = bound_next set (next_action set e.task k.lone) box n add.deed.taken next.0 done in
-      let r = front_replay in
+      let r = front_replay set before mid (e ∷ after) s front rest full each lones in
       (new before r.0 r.2 e.task c k.lone (ap (λ (z : Books). slice_get z.courses e.task) r.1 ∙ course.1) k.is box n x.0 x.1).0

@@ -1,5 +1,5 @@
 -- From a journal to the board that followed it.
-use Rattle.std.proofs.Common.{◌≡◌, ℕ, zero, suc, ◌+◌, ◌<◌, ◌≤◌, List, [], ◌∷◌, ◌++◌, Option, length, take, drop, get_or, refl, sym, ap, ◌∙◌, arith}
+use Rattle.std.proofs.Common.{◌≡◌, ℕ, zero, suc, ◌+◌, ◌<◌, ◌≤◌, List, [], ◌∷◌, ◌++◌, Option, append_assoc, length, take, drop, get_or, refl, sym, ap, subst, ◌∙◌, arith}
 use Rattle.kilim_run_journal.specs.declared.entry.Entry.{Entry}
 use Rattle.kilim_run_model.specs.State.{Setting}
 use Rattle.kilim_run_model.specs.Lone.{Lone}
@@ -9,9 +9,10 @@ use Rattle.kilim_run_model.specs.declared.waits.Waits.{Waits}
 use Rattle.kilim_run_board.specs.declared.board.Board as kept
 use Rattle.kilim_run_board.specs.Board.{BoardStands}
 use Rattle.kilim_run_board.specs.Seen.{seen, IsRoomy}
+use Rattle.kilim_run_board.proofs.Fronts.{front_replays}
 use Rattle.kilim_run_workers.proofs.Given.{same_begins}
 use Rattle.kilim_run_workers.proofs.one_worker.Measures.{same_calm}
-use Rattle.kilim_run_follow.specs.Follow.{CannotCome, DiffersAt, HasFollowed, IsFollowing}
+use Rattle.kilim_run_follow.specs.Follow.{CanCome, CannotCome, DiffersAt, HasFollowed, IsFollowing}
 use Rattle.kilim_run_follow.specs.Lending.{Widens}
 use Rattle.kilim_run_follow.specs.Steps.{HasGoneOn}
 
@@ -73,3 +74,16 @@ module _ {F : Type 0} (task : F → ℕ) (course : F → Course) (holds : Settin
     calm = same_calm refused (seen b) (seen b') wide.ready wide.parked gone.calm;
     begins = same_begins js b.journal.items b'.journal.items wide.run.journal gone.begins;
   }
+
+  -- the followed entries lead to a state
+  pub came : (js : List Entry) (seats : ℕ) (b : kept.Board F) → HasFollowed task course holds refused Of js seats b → (set : Setting) → Of set → CanCome set js
+  came js seats b followed set of =
+      let st = followed.stands set of in
+      front_replays set js followed.begins.0 st.state (subst (λ (es : List Entry). MovedReplay set es st.state) followed.begins.1 st.replay)
+
+-- entries that lead to a state don't differ anywhere
+pub never_differs : (set : Setting) (js : List Entry) (n : ℕ) → CanCome set js → DiffersAt set js n → ⊥
+never_differs set js n (v, replay) d =
+    let parts : js ≡ (d.before ++ d.entry ∷ []) ++ d.behind = d.parts ∙ sym (append_assoc d.before (d.entry ∷ []) d.behind) in
+    let f = front_replays set (d.before ++ d.entry ∷ []) d.behind v (subst (λ (es : List Entry). MovedReplay set es v) parts replay) in
+    d.none f.0 f.1

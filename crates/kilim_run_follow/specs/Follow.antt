@@ -18,6 +18,10 @@ use Rattle.kilim_run_follow.specs.declared.following.Followed.TheVariants as fol
 abbrev pub CannotCome : Setting → List Entry → Entry → Type 0
 CannotCome set before e = (v : Moving) → MovedReplay set (before ++ e ∷ []) v → ⊥
 
+-- these entries lead to a state
+abbrev pub CanCome : Setting → List Entry → Type 0
+CanCome set entries = (v : Moving) × MovedReplay set entries v
+
 -- The entry of that line, from 1 on, is the first that can't come: those before it lead to a state.
 pub record DiffersAt (set : Setting) (journal : List Entry) (n : ℕ) : Type 0 where
   pub before : List Entry

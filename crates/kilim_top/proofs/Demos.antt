@@ -23,6 +23,7 @@ refused_in : (number : ℕ) (r : Refusal) (d : Ready) → Refused r (IsDemoRepor
 refused_in number refusal.NoMemory d said by = absurd by
 refused_in number (refusal.Report t) (ready.Reply reply) said by = (by.0, (by.1.0, subst (λ (s : List ℕ). IsDemoReport number s) (sym by.1.1) said))
 refused_in number (refusal.Report t) (ready.Run plain woven class limits) said by = absurd by
+refused_in number (refusal.Report t) (ready.Resume stopped) said by = absurd by
 
 pub demo_refused : (number : ℕ) (r : Refusal) (d : Result Ready NoMemory) → Refused r (IsDemoReport number) → IfOk d (IsRefusedBy r) → IfOk d (IsDemoReady number)
 demo_refused number r (Ok d) said by = refused_in number r d said by
@@ -38,4 +39,5 @@ to_demo number workers files p w main limits is e = record {
 pub demo_prepared : (number workers : ℕ) (files : List (List ℕ)) (r : Result Ready NoMemory) → IfOk r (IsDemoReady number) → IfOk r (IsReadyFor (Demo number workers) files)
 demo_prepared number workers files (Ok (ready.Reply reply)) h = inr h
 demo_prepared number workers files (Ok (ready.Run plain woven class limits)) h = to_demo number workers files plain woven class limits h.0 h.1
+demo_prepared number workers files (Ok (ready.Resume stopped)) h = absurd h
 demo_prepared number workers files (Err e) h = tt

@@ -4,7 +4,7 @@ use Rattle.kilim_outside.specs.declared.folder.FailedCall.{FailedCall}
 use Rattle.kilim_outside.specs.Files.{Files}
 use Rattle.kilim_command.specs.grammar.Words.{Request, files_read}
 use Rattle.kilim_command.specs.Reads.{OneFailed}
-use Rattle.kilim_top.specs.Outcome.{FailedAtMost, HasReport, IsFit, Outside, Promises, shown}
+use Rattle.kilim_top.specs.Outcome.{CanBegin, FailedAtMost, HasReport, IsFit, Outside, Promises, shown}
 use Rattle.kilim_top.proofs.TopLaws.{not_still, some_work}
 
 below : {A : Type 0} (m n : ℕ) → m < n → m ≡ n → A
@@ -28,6 +28,10 @@ no_report : (contents : Option Files) → HasReport contents None → ⊥
 no_report None has = has
 no_report (Some held) has = has
 
+no_begin : (contents : Option Files) → CanBegin contents None → ⊥
+no_begin None can = can
+no_begin (Some held) can = can
+
 refused_words : (old : Outside) → Promises None old old 2
 refused_words old = record {
   known = let few : 2 ≤ 5 = omega arith in few;
@@ -44,6 +48,7 @@ refused_words old = record {
   calls = inl refl;
   complete = λ fit still calm. absurd (no_fit old.contents fit);
   reported = λ has still calm. absurd (no_report old.contents has);
+  saved = λ can still calm. absurd (no_begin old.contents can);
 }
 
 pub not_in_grammar : (request : Option Request) (old : Outside) → request ≡ None → Promises request old old 2
@@ -68,6 +73,7 @@ short work contents now_contents failed now_failed written faults kept calls = r
   calls = calls;
   complete = λ fit still calm. inr refl;
   reported = λ has still calm. inr refl;
+  saved = λ can still calm. inl (inr refl);
 }
 
 own_call : (work : Request) (names : List (List ℕ)) (contents now_contents : Option Files) (failed now_failed : List FailedCall) (written : Option (List ℕ)) (faults : ℕ) → names ≡ files_read work →
@@ -99,6 +105,7 @@ not_read work names contents now_contents failed now_failed written faults named
       calls = inr (inl of_work);
       complete = λ fit still calm. absurd (not_still now_failed failed _ of_work.2 still);
       reported = λ has still calm. absurd (not_still now_failed failed _ of_work.2 still);
+      saved = λ can still calm. absurd (not_still now_failed failed _ of_work.2 still);
     }
 
 -- the words ask for this work

@@ -1,4 +1,3 @@
-pub mod Mains
 pub mod WholeRun
 pub mod Replies
 pub mod Checks
@@ -7,4 +6,4 @@ pub mod Demos
 pub mod Responses
 pub mod Steady
 pub mod Ends
-pub mod Served
+pub mod Stopping

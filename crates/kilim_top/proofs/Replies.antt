@@ -19,7 +19,8 @@ use Rattle.kilim_weave_file_command.specs.Weaving.{IsWeaving}
 use Rattle.kilim_weave_file_command.specs.woven_files.Reports.{IsWeaveReport}
 use Rattle.kilim_weave.specs.Faults.{weave_fault}
 use Rattle.kilim_weave.specs.declared.weaving.Woven.{Woven}
-use Rattle.kilim_command.specs.grammar.Words.{Request, Check, Weave, Run, Replay, Demo}
+use Rattle.kilim_command.specs.grammar.Words.{Request, Check, Weave, Run, Replay, Save, Resume, Demo}
+use Rattle.kilim_image_command.specs.Laws.{NeverBegunAndReported, NeverGoneOnAndReported, NeverSavedAndReported}
 use Rattle.kilim_replay_command.specs.Laws.{NeverWholeAndReported}
 use Rattle.kilim_replay_command.specs.Replay.{IsReplayReport}
 use Rattle.kilim_stages.specs.woven_stage.Laws.{WovenIsNotReported}
@@ -31,21 +32,21 @@ use Rattle.kilim_top.specs.declared.answer.Reply.{Reply}
 use Rattle.kilim_top.specs.declared.answer.Ready.{Ready}
 use Rattle.kilim_top.specs.declared.answer.Ready.TheVariants as ready
 use Rattle.kilim_top.specs.Inside.Answer.{IsMainOf, IsNoMain, IsReadyFor, IsReadyOf, IsRefusedBy, IsReplyFor, IsToRun, IsWithoutMain}
-use Rattle.kilim_top.specs.Outcome.{IsDone, IsFitFor, IsFitRun, IsReport, class_texts, coded_methods, first_text, text_behind}
+use Rattle.kilim_top.specs.Outcome.{IsDone, IsFitFor, IsFitRun, IsReport, IsStageFault, class_texts, coded_methods, first_text, text_behind}
 use Rattle.kilim_command.specs.Report.{accepted_line, named_line, utf16_of}
 use Rattle.kilim_command.specs.RunText.{demo_number, run_text}
 use Rattle.kilim_command.specs.Words.{limits_of}
 use Rattle.kilim_run_model.specs.State.{Setting}
 use Rattle.kilim_run_journal.specs.declared.entry.Entry.{Entry}
-use Rattle.kilim_top.specs.Served.{WovenIsServed}
+use Rattle.kilim_image_command.specs.Laws.{WovenIsServed}
 use Rattle.kilim_run.specs.Runs.{IsJournalOf, setting_of}
 use Rattle.kilim_program.specs.main_class.Main.{fit_class_named}
-use Rattle.kilim_top.proofs.Mains.{fit_named, none_named}
+use Rattle.kilim_image_command.proofs.Mains.{fit_named, none_named}
 use Rattle.kilim_top.proofs.WholeRun.{to_run}
 
--- ---- never both
+-- ---- what is reported, and what is done
 
-module _ (both : NeverBoth) (one : OneProgramOf) (weavable : NeverWeavableAndReported) (replays : NeverWholeAndReported) (woven : WovenIsNotReported) where
+module _ (both : NeverBoth) (one : OneProgramOf) (weavable : NeverWeavableAndReported) (replays : NeverWholeAndReported) (woven : WovenIsNotReported) (begun : NeverBegunAndReported) (saves : NeverSavedAndReported) (goes : NeverGoneOnAndReported) where
   never_run : (main : List ℕ) (workers steps : ℕ) (args : List ℤ) (names files : List (List ℕ)) (text : List ℕ) → IsFitRun main files → IsReport (Run main workers steps args names) files text → ⊥
   never_run main workers steps args names files text fit (inl stage) = woven names files text fit.program fit.accepted fit.weavable (inl stage)
   never_run main workers steps args names files text fit (inr (inl method)) = woven names files text fit.program fit.accepted fit.weavable (inr method)
@@ -64,18 +65,23 @@ module _ (both : NeverBoth) (one : OneProgramOf) (weavable : NeverWeavableAndRep
   never (Weave to names) files text fit report = weavable names files text fit report
   never (Run main workers steps args names) files text fit report = never_run main workers steps args names files text fit report
   never (Replay main journal steps args names) files text fit report = replays names (utf16_of main) (limits_of steps args) (class_texts names files) (text_behind names files) text fit report
+  never (Save main image entries steps args names) files text fit report = saves names main (limits_of steps args) entries files text fit report
+  never (Resume image workers) files text fit report = goes (first_text files) text fit report
   never (Demo number workers) files text fit report = never_demo number text fit.0 fit.1 fit.2 report
 
-pub fit_of : (work : Request) (files : List (List ℕ)) (made : List OutputFile) (text : List ℕ) → IsDone work files made text → IsFitFor work files
-fit_of (Check names) files made text done = (done.1.program, done.1.accepted)
-fit_of (Weave to names) files made text done =
-    let woven = done.weaving.are_woven in
-    record { program = woven.program; accepted = woven.accepted; none = woven.none; classes = woven.classes; are_files = woven.are_files; fit = woven.fit }
-fit_of (Run main workers steps args names) files made text done =
-    let whole = done.1 in
-    record { program = whole.program; accepted = whole.accepted; weavable = whole.weavable; class = whole.class; named = whole.named; fit = whole.fit }
-fit_of (Replay main journal steps args names) files made text done = done.1.whole
-fit_of (Demo number workers) files made text done = (done.1.program, done.1.accepted, done.1.none)
+  -- where the work was done, no stage has a fault
+  pub undone : (work : Request) (files : List (List ℕ)) (made : List OutputFile) (text other : List ℕ) → IsDone work files made text → IsStageFault work files other → ⊥
+  undone (Check names) files made text other done fault = never (Check names) files other (done.1.program, done.1.accepted) fault
+  undone (Weave to names) files made text other done fault =
+      let w = done.weaving.are_woven in
+      never (Weave to names) files other (record { program = w.program; accepted = w.accepted; none = w.none; classes = w.classes; are_files = w.are_files; fit = w.fit }) fault
+  undone (Run main workers steps args names) files made text other done fault =
+      let whole = done.1 in
+      never (Run main workers steps args names) files other (record { program = whole.program; accepted = whole.accepted; weavable = whole.weavable; class = whole.class; named = whole.named; fit = whole.fit }) fault
+  undone (Replay main journal steps args names) files made text other done fault = never (Replay main journal steps args names) files other done.1.whole fault
+  undone (Save main image entries steps args names) files made text other done fault = let here = done.saved.here in begun names (utf16_of main) files other here.program here.class here.start fault
+  undone (Resume image workers) files made text other done fault = never (Resume image workers) files other done.1.resumed.can fault
+  undone (Demo number workers) files made text other done fault = never (Demo number workers) files other (done.1.program, done.1.accepted, done.1.none) fault
 
 -- ---- from an accepted program to the bytes of its files
 
@@ -96,6 +102,7 @@ no_class p name status made text found is one none = (one, (none, record { none 
 without_in : (p : WovenProgram) (name : List ℕ) (limits : Limits) (r : Result Ready NoMemory) → fit_class_named p.plain name ≡ None → IfOk r (IsWithoutMain name) → IfOk r (IsReadyOf p name limits)
 without_in p name limits (Ok (ready.Reply reply)) none h = no_class p.plain name reply.status reply.files.items reply.text.items none h.1.1 h.0 h.1.0
 without_in p name limits (Ok (ready.Run plain woven class l)) none h = absurd h
+without_in p name limits (Ok (ready.Resume stopped)) none h = absurd h
 without_in p name limits (Err e) none h = tt
 
 pub without : (p : WovenProgram) (seen name : List ℕ) (limits : Limits) (r : Result Ready NoMemory) (o : Option (WovenProgram × ClassId)) → o ≡ None → seen ≡ name → IsWithMain p seen o → IfOk r (IsWithoutMain seen) → IfOk r (IsReadyOf p name limits)
@@ -108,6 +115,7 @@ module _ (law : AcceptedFilesAreIsolated) (serves : WovenIsServed) (files : List
   ready_one main workers steps args names p (ready.Reply reply) of h =
       inr (h.0, (h.1.0, inr (inr (record { program = p.plain; accepted = of.accepted; weavable = of.none; none = h.1.1.none; is_text = h.1.1.is_text }))))
   ready_one main workers steps args names p (ready.Run plain woven class l) of h = to_run law serves files p few of main workers steps args names (setting_of plain class l) woven h
+  ready_one main workers steps args names p (ready.Resume stopped) of h = absurd h
 
   ready_of : (main : List ℕ) (workers steps : ℕ) (args : List ℤ) (names : List (List ℕ)) (p : WovenProgram) (r : Result Ready NoMemory) → IsWovenOf files p.plain p.woven →
       IfOk r (IsReadyOf p (utf16_of main) (limits_of steps args)) → IfOk r (IsReadyFor (Run main workers steps args names) files)
@@ -140,12 +148,13 @@ refused_one : (work : Request) (files : List (List ℕ)) (r : Refusal) (d : Read
 refused_one work files refusal.NoMemory d said by = absurd by
 refused_one work files (refusal.Report t) (ready.Reply reply) said by = inr (by.0, (by.1.0, subst (λ (s : List ℕ). IsReport work files s) (sym by.1.1) said))
 refused_one work files (refusal.Report t) (ready.Run plain woven class limits) said by = absurd by
+refused_one work files (refusal.Report t) (ready.Resume stopped) said by = absurd by
 
-refused_ready : (work : Request) (files : List (List ℕ)) (refusal : Refusal) (r : Result Ready NoMemory) → Refused refusal (IsReport work files) → IfOk r (IsRefusedBy refusal) → IfOk r (IsReadyFor work files)
+pub refused_ready : (work : Request) (files : List (List ℕ)) (refusal : Refusal) (r : Result Ready NoMemory) → Refused refusal (IsReport work files) → IfOk r (IsRefusedBy refusal) → IfOk r (IsReadyFor work files)
 refused_ready work files refusal (Ok d) said by = refused_one work files refusal d said by
 refused_ready work files refusal (Err e) said by = tt
 
-refused_as : (A B : List ℕ → Type 0) (r : Refusal) → ((text : List ℕ) → A text → B text) → Refused r A → Refused r B
+pub refused_as : (A B : List ℕ → Type 0) (r : Refusal) → ((text : List ℕ) → A text → B text) → Refused r A → Refused r B
 refused_as A B refusal.NoMemory f said = tt
 refused_as A B (refusal.Report t) f said = f t.items said
 

@@ -3,15 +3,17 @@ use Rattle.std.proofs.Common.{◌≡◌, ◌⊎◌, ℕ, List, [], Some, sym, su
 use Rattle.kilim_outside.specs.Causes.{Appended}
 use Rattle.kilim_stages.specs.Laws.{NeverBoth, OneProgramOf}
 use Rattle.kilim_weave_file_command.specs.Laws.{NeverWeavableAndReported}
-use Rattle.kilim_command.specs.grammar.Words.{Request, Check, Weave, Run, Replay, Demo}
+use Rattle.kilim_command.specs.grammar.Words.{Request, Check, Weave, Run, Replay, Save, Resume, Demo}
+use Rattle.kilim_image_command.specs.Laws.{NeverBegunAndReported, NeverGoneOnAndReported, NeverSavedAndReported}
 use Rattle.kilim_replay_command.specs.Laws.{NeverWholeAndReported}
 use Rattle.kilim_stages.specs.woven_stage.Laws.{WovenIsNotReported}
 use Rattle.kilim_outside.specs.written.OutputFile.{OutputFile}
 use Rattle.kilim_outside.specs.written.Written.{HaveOwnPaths, WroteFiles}
 use Rattle.kilim_top.specs.Inside.Answer.{IsReplyFor}
 use Rattle.kilim_top.specs.Inside.Respond.{Responded}
-use Rattle.kilim_top.specs.Outcome.{AsksForFiles, HowFar, IsDone, IsFault, IsReport, IsToWrite, Outside}
-use Rattle.kilim_top.proofs.Replies.{fit_of, never}
+use Rattle.kilim_command.specs.Report.{utf16_of}
+use Rattle.kilim_top.specs.Outcome.{AsksForFiles, HowFar, IsBegun, IsDone, IsFault, IsLarge, IsReport, IsToWrite, Outside}
+use Rattle.kilim_top.proofs.Replies.{never, undone}
 
 -- ---- what a reply has to be written
 
@@ -27,6 +29,8 @@ paths_of_done (Check names) files made text done = no_paths made done.0
 paths_of_done (Weave to names) files made text done = done.weaving.own_paths
 paths_of_done (Run main workers steps args names) files made text done = no_paths made done.0
 paths_of_done (Replay main journal steps args names) files made text done = no_paths made done.0
+paths_of_done (Save main image entries steps args names) files made text done = subst HaveOwnPaths (sym done.made_is) (tt, tt)
+paths_of_done (Resume image workers) files made text done = no_paths made done.0
 paths_of_done (Demo number workers) files made text done = no_paths made done.0
 
 own_paths : (work : Request) (files : List (List ℕ)) (made : List OutputFile) (text : List ℕ) → IsToWrite work files made text → HaveOwnPaths made
@@ -41,6 +45,8 @@ none_done (Check names) files made text done none = done.0
 none_done (Weave to names) files made text done none = absurd (none tt)
 none_done (Run main workers steps args names) files made text done none = done.0
 none_done (Replay main journal steps args names) files made text done none = done.0
+none_done (Save main image entries steps args names) files made text done none = absurd (none tt)
+none_done (Resume image workers) files made text done none = done.0
 none_done (Demo number workers) files made text done none = done.0
 
 no_files : (work : Request) (files : List (List ℕ)) (made : List OutputFile) (text : List ℕ) → IsToWrite work files made text → (AsksForFiles (Some work) → ⊥) → made ≡ []
@@ -50,6 +56,17 @@ no_files work files made text (inr report) none = report.0
 pub reply_as : (work : Request) (files : List (List ℕ)) (status : ℕ) (made of : List OutputFile) (text from : List ℕ) → made ≡ of → text ≡ from → IsReplyFor work files status of from → IsReplyFor work files status made text
 reply_as work files status made of text from same_files same_text reply =
     subst (λ (fs : List OutputFile). IsReplyFor work files status fs text) (sym same_files) (subst (λ (bs : List ℕ). IsReplyFor work files status of bs) (sym same_text) reply)
+
+-- where the run that is to be saved can be begun, the report is that its image is too large
+large_in : NeverBegunAndReported → (work : Request) (files : List (List ℕ)) (text : List ℕ) → IsBegun work files → IsReport work files text → IsLarge work files text
+large_in law (Check names) files text is report = absurd is
+large_in law (Weave to names) files text is report = absurd is
+large_in law (Run main workers steps args names) files text is report = absurd is
+large_in law (Replay main journal steps args names) files text is report = absurd is
+large_in law (Save main image entries steps args names) files text is (inl start) = absurd (law names (utf16_of main) files text is.0 is.1 is.2 start)
+large_in law (Save main image entries steps args names) files text is (inr large) = large
+large_in law (Resume image workers) files text is report = absurd is
+large_in law (Demo number workers) files text is report = absurd is
 
 -- ---- at each status
 
@@ -79,6 +96,7 @@ module _ (work : Request) (files : List (List ℕ)) (made : List OutputFile) (te
     write = λ e. (record { made = made; text = text; to_write = to; how_far = how }, fault);
     memory = λ e. absurd (omega (arith, e));
     fit = λ e. absurd (omega (arith, e));
+    large = λ e. absurd (omega (arith, e));
     unreported = λ e. absurd (omega (arith, e));
     quiet = λ e. absurd (either e (λ z. omega (arith, z)) (λ z. omega (arith, z)));
     failed = λ e. absurd (either e (λ z. omega (arith, z)) (λ z. omega (arith, z)));
@@ -95,13 +113,14 @@ module _ (work : Request) (files : List (List ℕ)) (made : List OutputFile) (te
     write = λ e. absurd (omega (arith, e));
     memory = λ e. record { made = made; text = text; to_write = to; how_far = how };
     fit = λ e. absurd (omega (arith, e));
+    large = λ e. absurd (omega (arith, e));
     unreported = λ e. absurd (omega (arith, e));
     quiet = λ e. absurd (either e (λ z. omega (arith, z)) (λ z. omega (arith, z)));
     failed = λ e. absurd (either e (λ z. omega (arith, z)) (λ z. omega (arith, z)));
     contents = kept to stays (λ e. omega (arith, e));
   }
 
-  module _ (both : NeverBoth) (one : OneProgramOf) (weavable : NeverWeavableAndReported) (replays : NeverWholeAndReported) (woven : WovenIsNotReported) (status : ℕ) where
+  module _ (both : NeverBoth) (one : OneProgramOf) (weavable : NeverWeavableAndReported) (replays : NeverWholeAndReported) (woven : WovenIsNotReported) (begun : NeverBegunAndReported) (saves : NeverSavedAndReported) (goes : NeverGoneOnAndReported) (status : ℕ) where
     done_at : status ≡ 0 → IsDone work files made text → WroteFiles made old.contents new.contents → new.failed ≡ old.failed → new.faults ≡ old.faults → Appended old.written new.written text → Stays → Responded work files old new status
     done_at is done were_made failed quiet written stays = record {
       known = omega (arith, is);
@@ -112,7 +131,8 @@ module _ (work : Request) (files : List (List ℕ)) (made : List OutputFile) (te
       write = λ e. absurd (omega (arith, is, e));
       memory = λ e. absurd (omega (arith, is, e));
       fit = λ e fit. zero_one status is e;
-      unreported = λ e other report. never both one weavable replays woven work files other (fit_of work files made text done) report;
+      large = λ e begins. absurd (zero_one status is e);
+      unreported = λ e other fault. undone both one weavable replays woven begun saves goes work files made text other done fault;
       quiet = λ e. quiet;
       failed = λ e. failed;
       contents = kept (inl done) stays (zero_one status is);
@@ -127,7 +147,8 @@ module _ (work : Request) (files : List (List ℕ)) (made : List OutputFile) (te
       report = λ e. record { text = text; report = report; written = written };
       write = λ e. absurd (omega (arith, is, e));
       memory = λ e. absurd (omega (arith, is, e));
-      fit = λ e fit. never both one weavable replays woven work files text fit report;
+      fit = λ e fit. never both one weavable replays woven begun saves goes work files text fit report;
+      large = λ e begins. (text, large_in begun work files text begins report, written);
       unreported = λ e. absurd (zero_one status e is);
       quiet = λ e. quiet;
       failed = λ e. failed;

@@ -5,11 +5,11 @@ use Rattle.kilim_outside.specs.Causes.{Rose}
 use Rattle.kilim_outside.specs.declared.folder.FailedCall.{FailedCall}
 use Rattle.kilim_outside.specs.declared.folder.FailedCall.TheVariants.{Write}
 use Rattle.kilim_outside.specs.Files.{Files}
-use Rattle.kilim_command.specs.grammar.Words.{Request, Check, Weave, Run, Replay, Demo, files_read}
+use Rattle.kilim_command.specs.grammar.Words.{Request, Check, Weave, Run, Replay, Save, Resume, Demo, files_read}
 use Rattle.kilim_outside.specs.written.OutputFile.{OutputFile}
 use Rattle.kilim_top.specs.Inside.Respond.{Wrote0, Wrote1, WroteFrontOf, Responded}
 use Rattle.kilim_command.specs.Reads.{WereRead}
-use Rattle.kilim_top.specs.Outcome.{AsksForFiles, FailedAtMost, HasReport, HowFar, InFiles, InText, IsDone, IsFault, IsFit, IsFitFor, IsReport, IsToWrite, Outside, Promises, WriteFailed, WroteFront, WroteReport, WroteSomeFiles, WroteText, read_of, shown}
+use Rattle.kilim_top.specs.Outcome.{AsksForFiles, CanBegin, FailedAtMost, HasReport, HowFar, InFiles, InText, IsBegun, IsDone, IsFault, IsFit, IsFitFor, IsReport, IsStageFault, IsToWrite, Outside, Promises, WriteFailed, WroteFront, WroteLarge, WroteReport, WroteSomeFiles, WroteText, read_of, shown}
 
 length_read : (contents : Option Files) (names files : List (List ℕ)) → WereRead contents names files → length names ≡ length files
 length_read contents [] [] were = refl
@@ -72,15 +72,28 @@ unfit None (Check names) files were not_fit fit = fit
 unfit None (Weave to names) files were not_fit fit = fit
 unfit None (Run main workers steps args names) files were not_fit fit = fit
 unfit None (Replay main journal steps args names) files were not_fit fit = fit
+unfit None (Save main image entries steps args names) files were not_fit fit = fit
+unfit None (Resume image workers) files were not_fit fit = fit
 unfit (Some held) work files were not_fit fit = not_fit (subst (λ (bs : List (List ℕ)). IsFitFor work bs) (read_is held (files_read work) files were) fit)
 
-pub unreported : (contents : Option Files) (work : Request) (files : List (List ℕ)) → WereRead contents (files_read work) files → ((text : List ℕ) → IsReport work files text → ⊥) → HasReport contents (Some work) → ⊥
+pub unreported : (contents : Option Files) (work : Request) (files : List (List ℕ)) → WereRead contents (files_read work) files → ((text : List ℕ) → IsStageFault work files text → ⊥) → HasReport contents (Some work) → ⊥
 unreported contents (Demo number workers) files were none has = none has.0 has.1
 unreported None (Check names) files were none has = has
 unreported None (Weave to names) files were none has = has
 unreported None (Run main workers steps args names) files were none has = has
 unreported None (Replay main journal steps args names) files were none has = has
-unreported (Some held) work files were none has = none has.0 (subst (λ (bs : List (List ℕ)). IsReport work bs has.0) (read_is held (files_read work) files were) has.1)
+unreported None (Save main image entries steps args names) files were none has = has
+unreported None (Resume image workers) files were none has = has
+unreported (Some held) work files were none has = none has.0 (subst (λ (bs : List (List ℕ)). IsStageFault work bs has.0) (read_is held (files_read work) files were) has.1)
+
+begun_of : (contents : Option Files) (work : Request) (files : List (List ℕ)) → WereRead contents (files_read work) files → CanBegin contents (Some work) → IsBegun work files
+begun_of None work files were can = absurd can
+begun_of (Some held) work files were can = subst (λ (bs : List (List ℕ)). IsBegun work bs) (read_is held (files_read work) files were) can
+
+wrote_large : (work : Request) (files : List (List ℕ)) (old new : Outside) (status : ℕ) → WereRead old.contents (files_read work) files → Responded work files old new status → status ≡ 1 → CanBegin old.contents (Some work) → WroteLarge (Some work) old new
+wrote_large work files old new status were r one can =
+    let l = r.large one (begun_of old.contents work files were can) in
+    record { work = work; asked = refl; files = files; were_read = were; text = l.0; large = l.1; written = l.2 }
 
 -- ---- the promises, at each end of the work
 
@@ -180,6 +193,9 @@ responded_at work files old new status were r = record {
   reported = λ has still calm.
       six status r.known (λ e. absurd (unreported old.contents work files were (r.unreported e) has)) (λ e. inl e) (λ e. absurd (r.not_usage e)) (λ e. absurd (r.not_unread e))
       (λ e. let w = r.write e in absurd (faulty w.0.made w.0.text old new w.0.how_far w.1 still calm)) (λ e. inr e);
+  saved = λ can still calm.
+      six status r.known (λ e. inl (inl e)) (λ e. inr (e, wrote_large work files old new status were r e can)) (λ e. absurd (r.not_usage e)) (λ e. absurd (r.not_unread e))
+      (λ e. let w = r.write e in absurd (faulty w.0.made w.0.text old new w.0.how_far w.1 still calm)) (λ e. inl (inr e));
 }
   where
     no_files_at : (AsksForFiles (Some work) → ⊥) ⊎ ((status ≡ 1) ⊎ ((status ≡ 2) ⊎ (status ≡ 3))) → (AsksForFiles (Some work) → ⊥) ⊎ (status ≡ 1)

@@ -10,7 +10,7 @@ use Rattle.kilim_run_model.specs.State.{Setting}
 use Rattle.kilim_weave_file_command.specs.Laws.{AcceptedFilesAreIsolated}
 use Rattle.kilim_weave.specs.Faults.{weave_fault}
 use Rattle.kilim_weave.specs.declared.weaving.Woven.{Woven}
-use Rattle.kilim_top.specs.Served.{WovenIsServed}
+use Rattle.kilim_image_command.specs.Laws.{WovenIsServed}
 use Rattle.kilim_run.specs.Runs.{setting_of}
 use Rattle.kilim_command.specs.grammar.Words.{Run}
 use Rattle.kilim_fiber_laws.specs.Served.{CanServe}

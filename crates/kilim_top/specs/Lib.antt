@@ -1,4 +1,3 @@
 pub mod Outcome
 pub mod Inside
 pub mod demo
-pub mod Served

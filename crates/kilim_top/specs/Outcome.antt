@@ -23,7 +23,7 @@ use Rattle.kilim_run_model.specs.Reach.{Liveness, PlaysIsolated}
 use Rattle.kilim_run_model.specs.Runs.{Whole}
 use Rattle.kilim_run_model.specs.State.{Setting}
 use Rattle.kilim_type_spec.specs.Typed.{Live, has_code}
-use Rattle.kilim_command.specs.grammar.Words.{Request, Check, Weave, Run, Replay, Demo, files_read}
+use Rattle.kilim_command.specs.grammar.Words.{Request, Check, Weave, Run, Replay, Save, Resume, Demo, files_read}
 use Rattle.kilim_outside.specs.written.OutputFile.{OutputFile}
 use Rattle.kilim_outside.specs.written.Written.{HasFailed, StoppedAtFile, WroteFiles}
 use Rattle.kilim_weave_file_command.specs.Weaving.{IsWeavable, IsWeaving}
@@ -33,6 +33,9 @@ use Rattle.kilim_fiber_laws.specs.woven_served.Served.{ServesRun}
 use Rattle.kilim_weave_file_command.specs.woven_files.Reports.{IsWeaveReport}
 use Rattle.kilim_stages.specs.woven_stage.Reports.{IsMethodReport}
 use Rattle.kilim_replay_command.specs.Replay.{IsReplayReport, IsReplayed, IsWholeJournal}
+use Rattle.kilim_image_command.specs.Programs.{IsStart, IsStartReport}
+use Rattle.kilim_image_command.specs.Saving.{CanBeSaved, IsSaveReport, IsSavedRun, IsTooLarge}
+use Rattle.kilim_image_command.specs.Resuming.{CanGoOn, IsResumeReport, IsResumedRun}
 use Rattle.kilim_top.specs.demo.Demo.{demo_texts, IsDemoLine, IsDemoReport}
 use Rattle.kilim_stages.specs.Accepted.{IsAcceptedOf}
 use Rattle.kilim_stages.specs.Reports.{IsStageReport}
@@ -128,12 +131,34 @@ first_text (text ∷ texts) = text
 abbrev pub text_behind : (names files : List (List ℕ)) → List ℕ
 text_behind names files = first_text (drop (length names) files)
 
+-- ---- a run that is stopped, and goes on
+
+-- a file of that name, with these bytes
+abbrev pub file_of : (path bytes : List ℕ) → OutputFile
+file_of path bytes = record { path = path; bytes = bytes }
+
+-- The one file that is made is the image of a run that was stopped, and the text is that of its journal so far. None of the program's runs
+-- shares an object.
+pub record IsSave (main image : List ℕ) (limits : Limits) (few : ℕ) (files : List (List ℕ)) (made : List OutputFile) (text : List ℕ) : Type 0 where
+  pub bytes : List ℕ
+  pub made_is : made ≡ file_of image bytes ∷ []
+  pub saved : IsSavedRun main limits few files bytes text
+  pub isolated : IsIsolatedRun saved.here.program saved.here.class limits
+
+-- With the entries of the image before it, the text is that of the journal of a whole run of the image's program, none of whose runs shares an
+-- object.
+pub record IsResume (bytes text : List ℕ) : Type 0 where
+  pub resumed : IsResumedRun bytes text
+  pub isolated : IsIsolatedRun resumed.can.image.program resumed.can.image.class (limits_of resumed.can.image.run.steps resumed.can.image.run.args)
+
 -- the work that is asked for can be done with these files
 abbrev pub IsFitFor : Request → List (List ℕ) → Type 0
 IsFitFor (Check names) files = (program : Program) × IsAcceptedOf files program
 IsFitFor (Weave to names) files = IsWeavable files
 IsFitFor (Run main workers steps args names) files = IsFitRun main files
 IsFitFor (Replay main journal steps args names) files = IsWholeJournal (utf16_of main) (limits_of steps args) (class_texts names files) (text_behind names files)
+IsFitFor (Save main image entries steps args names) files = CanBeSaved main (limits_of steps args) entries files
+IsFitFor (Resume image workers) files = CanGoOn (first_text files)
 IsFitFor (Demo number workers) files = (program : Program) × IsAcceptedOf (demo_texts number) program × (weave_fault program ≡ None)
 
 -- what is written where it was done: the files that are made, and then a text
@@ -142,6 +167,8 @@ IsDone (Check names) files made text = (made ≡ []) × IsCheck files text
 IsDone (Weave to names) files made text = IsWeave to files made text
 IsDone (Run main workers steps args names) files made text = (made ≡ []) × IsWholeRun main (limits_of steps args) files text
 IsDone (Replay main journal steps args names) files made text = (made ≡ []) × IsReplayed (utf16_of main) (limits_of steps args) (class_texts names files) (text_behind names files) text
+IsDone (Save main image entries steps args names) files made text = IsSave main image (limits_of steps args) entries files made text
+IsDone (Resume image workers) files made text = (made ≡ []) × IsResume (first_text files) text
 IsDone (Demo number workers) files made text = (made ≡ []) × IsDemoLine number text
 
 -- ---- reports: lines with their line feeds
@@ -154,13 +181,30 @@ pub record IsMainReport (main : List ℕ) (files : List (List ℕ)) (text : List
   pub none : (class : ClassId) → class_named program (utf16_of main) ≡ Some class → is_fit_main program class ≡ true → ⊥
   pub is_text : text ≡ main_line main
 
--- the report of the first stage that has a fault
+-- the report of the first stage that has a fault; of a run that is saved also that its image is too large
 abbrev pub IsReport : Request → List (List ℕ) → List ℕ → Type 0
 IsReport (Check names) files text = IsStageReport names files text
 IsReport (Weave to names) files text = IsWeaveReport names files text
 IsReport (Run main workers steps args names) files text = IsStageReport names files text ⊎ (IsMethodReport files text ⊎ IsMainReport main files text)
 IsReport (Replay main journal steps args names) files text = IsReplayReport names (utf16_of main) (limits_of steps args) (class_texts names files) (text_behind names files) text
+IsReport (Save main image entries steps args names) files text = IsSaveReport names main (limits_of steps args) entries files text
+IsReport (Resume image workers) files text = IsResumeReport (first_text files) text
 IsReport (Demo number workers) files text = IsDemoReport number text
+
+-- A stage has a fault, and this is its report. That an image is too large is none: it goes by where the run was stopped.
+abbrev pub IsStageFault : Request → List (List ℕ) → List ℕ → Type 0
+IsStageFault (Save main image entries steps args names) files text = IsStartReport names (utf16_of main) files text
+IsStageFault work files text = IsReport work files text
+
+-- the run that is to be saved can be begun: no stage has a fault
+abbrev pub IsBegun : Request → List (List ℕ) → Type 0
+IsBegun (Save main image entries steps args names) files = (program : Program) × (class : ClassId) × IsStart (utf16_of main) files program class
+IsBegun work files = ⊥
+
+-- the line that the image of a run is too large
+abbrev pub IsLarge : Request → List (List ℕ) → List ℕ → Type 0
+IsLarge (Save main image entries steps args names) files text = IsTooLarge main (limits_of steps args) entries files text
+IsLarge work files text = ⊥
 
 -- ---- the outside
 
@@ -197,6 +241,16 @@ pub record WroteReport (request : Option Request) (old new : Outside) : Type 0 w
   pub were_read : WereRead old.contents (files_read work) files
   pub text : List ℕ
   pub report : IsReport work files text
+  pub written : Appended old.written new.written text
+
+-- the line that the image of a run is too large
+pub record WroteLarge (request : Option Request) (old new : Outside) : Type 0 where
+  pub work : Request
+  pub asked : request ≡ Some work
+  pub files : List (List ℕ)
+  pub were_read : WereRead old.contents (files_read work) files
+  pub text : List ℕ
+  pub large : IsLarge work files text
   pub written : Appended old.written new.written text
 
 -- the files up to one, which is open, and nothing of the text
@@ -243,6 +297,7 @@ WroteNothing old new = (new.contents ≡ old.contents) × (new.written ≡ old.w
 -- the words ask for files to be written
 abbrev pub AsksForFiles : Option Request → Type 0
 AsksForFiles (Some (Weave to names)) = Unit {0}
+AsksForFiles (Some (Save main image entries steps args names)) = Unit {0}
 AsksForFiles request = ⊥
 
 -- ---- which calls of the folder failed
@@ -286,8 +341,13 @@ IsFit contents request = ⊥
 -- A stage has a fault, of a folder that tells what it holds, and of the demo over every folder.
 abbrev pub HasReport : Option Files → Option Request → Type 0
 HasReport contents (Some (Demo number workers)) = (text : List ℕ) × IsReport (Demo number workers) [] text
-HasReport (Some held) (Some work) = (text : List ℕ) × IsReport work (read_of held (files_read work)) text
+HasReport (Some held) (Some work) = (text : List ℕ) × IsStageFault work (read_of held (files_read work)) text
 HasReport contents request = ⊥
+
+-- the run that is to be saved can be begun, with the files of a folder that tells what it holds
+abbrev pub CanBegin : Option Files → Option Request → Type 0
+CanBegin (Some held) (Some work) = IsBegun work (read_of held (files_read work))
+CanBegin contents request = ⊥
 
 -- ---- the promises of the top call
 
@@ -317,3 +377,5 @@ pub record Promises (request : Option Request) (old new : Outside) (status : ℕ
   -- stage that has a fault.
   pub complete : IsFit old.contents request → new.failed ≡ old.failed → (Rose old.faults new.faults → ⊥) → (status ≡ DONE) ⊎ (status ≡ NO_MEMORY)
   pub reported : HasReport old.contents request → new.failed ≡ old.failed → (Rose old.faults new.faults → ⊥) → (status ≡ REPORTED) ⊎ (status ≡ NO_MEMORY)
+  -- So is a run that is to be saved and can be begun, unless its image is too large.
+  pub saved : CanBegin old.contents request → new.failed ≡ old.failed → (Rose old.faults new.faults → ⊥) → ((status ≡ DONE) ⊎ (status ≡ NO_MEMORY)) ⊎ ((status ≡ REPORTED) × WroteLarge request old new)

@@ -4,13 +4,11 @@
 
 mod answer;
 mod demo;
-mod laws;
 mod program;
 mod runs;
 mod top;
 mod work;
 
 pub use kilim_command::{DONE, NO_MEMORY, REPORTED, UNREAD, UNWRITTEN, USAGE};
-pub use laws::woven_is_served;
 pub use program::command;
 pub use top::{kilim, kilim_alone, kilim_in_memory};

@@ -19,11 +19,14 @@ use std::thread::Threads;
 /// status, and None where a run needs more than one worker, with nothing done.
 ///
 /// The words are those after the program's name: `check FILE..`, `weave --to=DIR FILE..`,
-/// `run --main=NAME [--workers=W] [--steps=N] FILE.. [-- INT..]`, `replay --main=NAME --journal=FILE [--steps=N] FILE.. [-- INT..]`, each
-/// with at most 1,000 files, or `demo --number=D [--workers=W]`. The
+/// `run --main=NAME [--workers=W] [--steps=N] FILE.. [-- INT..]`, `replay --main=NAME --journal=FILE [--steps=N] FILE.. [-- INT..]`,
+/// `save --main=NAME --entries=K --image=FILE [--steps=N] FILE.. [-- INT..]`, each with at most 1,000 files, `resume --image=FILE [--workers=W]`,
+/// or `demo --number=D [--workers=W]`. The
 /// status is 0 where the work was done, and its files and its text were written whole: that the class files are accepted; woven files,
-/// and a line for each; the run's journal; or the line of the demo. It is 1 where a report was: that a file is no class file, or the
-/// class files don't link, or break rules of typing, isolation or pausing, or can't be woven, or have no such main class; 2 where the
+/// and a line for each; the run's journal; an image and the journal so far; what follows the journal of an image; or the line of the demo.
+/// It is 1 where a report was: that a file is no class file, or the
+/// class files don't link, or break rules of typing, isolation or pausing, or can't be woven, or have no such main class, or what is wrong with
+/// a journal or an image; 2 where the
 /// words aren't in the grammar; 3 where a file can't be read; 4 where a file or the text can't be written; 5 for want of memory.
 ///
 /// `Promises` (specs/Outcome.antt) has what each status says. The sink is left alone before all files are read and all woven files

@@ -11,6 +11,9 @@ use crate::answer::Reply;
 use crate::runs::{reply_alone, reply_with};
 use kilim_command::grammar::Asked;
 use kilim_command::{NO_MEMORY, UNREAD, UNWRITTEN, read_asked, write_all};
+use kilim_image_command::{
+    never_begun_and_reported, never_gone_on_and_reported, never_saved_and_reported,
+};
 use kilim_outside::written::write_files;
 use kilim_outside::{Folder, FolderFault, Gate, SinkFault, TextSink};
 use kilim_replay_command::never_whole_and_reported;
@@ -38,6 +41,9 @@ fn respond<F: Folder, K: TextSink>(
     never_weavable_and_reported();
     never_whole_and_reported();
     woven_is_not_reported();
+    never_begun_and_reported();
+    never_saved_and_reported();
+    never_gone_on_and_reported();
     let _asked = asked;
     let _bytes = bytes;
     match write_files(files, reply.files.as_slice()) {

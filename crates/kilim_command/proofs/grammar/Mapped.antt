@@ -5,7 +5,7 @@ use Rattle.std.specs.List.{list_all}
 use Rattle.kilim_command.specs.declared.grammar.options.Values.{Values}
 use Rattle.kilim_command.specs.grammar.Numbers.{int_by}
 use Rattle.kilim_command.specs.grammar.Parts.{Tells, numbers_or}
-use Rattle.kilim_command.specs.grammar.Words.{Request, are_files, args_in, default_steps, demo_request, demo_with, file_in, is_demo_option, is_file, is_option, is_replay_option, is_weave_option, journal_option, main_option, most_number, most_steps, most_workers, number_of, number_option, number_or, replay_of, replay_with, run_of, run_with, steps_option, text_in, to_option, value_behind, value_or, values_of, weave_of, weave_with, with_first, ints_of, workers_option}
+use Rattle.kilim_command.specs.grammar.Words.{Request, are_files, args_in, default_steps, demo_request, demo_with, entries_option, file_in, image_option, is_demo_option, is_file, is_option, is_replay_option, is_resume_option, is_save_option, is_weave_option, journal_option, main_option, most_entries, most_number, most_steps, most_workers, number_of, number_option, number_or, replay_of, replay_with, resume_request, resume_with, run_of, run_with, save_of, save_with, steps_option, text_in, to_option, value_behind, value_or, values_of, weave_of, weave_with, with_first, ints_of, workers_option}
 
 pub all_map : {A B : Type 0} (f : A → B) (test : B → Bool) (xs : List A) → list_all (λ x. test (f x)) xs ≡ list_all test (map f xs)
 all_map f test [] = refl
@@ -76,6 +76,35 @@ replay_taken o f b z r e n s = s ∙ sym (ap (λ (y : Bool). cond y (asked_repla
 pub replay_same : (f : List (List ℕ)) (m m' j j' : Option (List ℕ)) (s s' : Option ℕ) (a a' : Option (List ℤ)) → m ≡ m' → j ≡ j' → s ≡ s' → a ≡ a' → replay_with f m j s a ≡ replay_with f m' j' s' a'
 replay_same f m m' j j' s s' a a' p q r t =
     ap (λ (x : Option (List ℕ)). replay_with f x j s a) p ∙ (ap (λ (x : Option (List ℕ)). replay_with f m' x s a) q ∙ (ap (λ (x : Option ℕ). replay_with f m' j' x a) r ∙ ap (λ (x : Option (List ℤ)). replay_with f m' j' s' x) t))
+
+-- ---- what `save` is asked
+
+abbrev asked_save : (options files behind : List (List ℕ)) → Option Request
+asked_save o f b = save_with f (text_in (values_of main_option o)) (file_in (values_of image_option o)) (number_of most_entries (values_of entries_option o)) (number_or default_steps most_steps (values_of steps_option o)) (args_in b)
+
+pub save_refused : (o f b : List (List ℕ)) (z : Bool) → z ≡ (list_all is_save_option o && are_files f) → z ≡ false → None ≡ save_of o f b
+save_refused o f b z e n = sym (ap (λ (y : Bool). cond y (asked_save o f b) None) (sym e ∙ n))
+
+pub save_taken : (o f b : List (List ℕ)) (z : Bool) (r : Option Request) → z ≡ (list_all is_save_option o && are_files f) → z ≡ true → r ≡ asked_save o f b → r ≡ save_of o f b
+save_taken o f b z r e n s = s ∙ sym (ap (λ (y : Bool). cond y (asked_save o f b) None) (sym e ∙ n))
+
+pub save_same : (f : List (List ℕ)) (m m' i i' : Option (List ℕ)) (k k' s s' : Option ℕ) (a a' : Option (List ℤ)) → m ≡ m' → i ≡ i' → k ≡ k' → s ≡ s' → a ≡ a' → save_with f m i k s a ≡ save_with f m' i' k' s' a'
+save_same f m m' i i' k k' s s' a a' p q u r t =
+    ap (λ (x : Option (List ℕ)). save_with f x i k s a) p ∙ (ap (λ (x : Option (List ℕ)). save_with f m' x k s a) q ∙
+    (ap (λ (x : Option ℕ). save_with f m' i' x s a) u ∙ (ap (λ (x : Option ℕ). save_with f m' i' k' x a) r ∙ ap (λ (x : Option (List ℤ)). save_with f m' i' k' s' x) t)))
+
+-- ---- what `resume` is asked
+
+abbrev asked_resume : List (List ℕ) → Option Request
+asked_resume ws = resume_with (file_in (values_of image_option ws)) (number_or 1 most_workers (values_of workers_option ws))
+
+pub resume_refused : (ws : List (List ℕ)) (z : Bool) → z ≡ list_all is_resume_option ws → z ≡ false → None ≡ resume_request ws
+resume_refused ws z e n = sym (ap (λ (y : Bool). cond y (asked_resume ws) None) (sym e ∙ n))
+
+pub resume_taken : (ws : List (List ℕ)) (z : Bool) (r : Option Request) (image : Option (List ℕ)) (workers : Option ℕ) → z ≡ list_all is_resume_option ws → z ≡ true → r ≡ resume_with image workers →
+    image ≡ file_in (values_of image_option ws) → workers ≡ number_or 1 most_workers (values_of workers_option ws) → r ≡ resume_request ws
+resume_taken ws z r image workers e n s a b =
+    s ∙ (ap (λ (x : Option (List ℕ)). resume_with x workers) a ∙ (ap (λ (x : Option ℕ). resume_with (file_in (values_of image_option ws)) x) b ∙ sym (ap (λ (y : Bool). cond y (asked_resume ws) None) (sym e ∙ n))))
 
 -- ---- what `demo` is asked
 

@@ -5,7 +5,7 @@ use Rattle.kilim_command.specs.declared.grammar.options.Values.{Values}
 use Rattle.kilim_command.specs.declared.grammar.options.Values.TheVariants as values
 use Rattle.kilim_command.specs.declared.grammar.asked.Asked.{Asked}
 use Rattle.kilim_command.specs.declared.grammar.asked.Asked.TheVariants as asked
-use Rattle.kilim_command.specs.grammar.Words.{Request, Check, Weave, Run, Replay, Demo, ints_of, value_behind}
+use Rattle.kilim_command.specs.grammar.Words.{Request, Check, Weave, Run, Replay, Save, Resume, Demo, ints_of, value_behind}
 use Rattle.kilim_command.specs.grammar.Numbers.{int_by}
 
 -- the values of an option, as far as they matter
@@ -31,12 +31,15 @@ meant (asked.Check files) = Check (map string_bytes files.now)
 meant (asked.Weave weave) = Weave weave.to.now (map string_bytes weave.files.now)
 meant (asked.Run run) = Run run.main.now run.workers run.steps (numbers_of (map string_bytes run.args.now)) (map string_bytes run.files.now)
 meant (asked.Replay replay) = Replay replay.main.now replay.journal.now replay.steps (numbers_of (map string_bytes replay.args.now)) (map string_bytes replay.files.now)
+meant (asked.Save save) = Save save.main.now save.image.now save.entries save.steps (numbers_of (map string_bytes save.args.now)) (map string_bytes save.files.now)
+meant (asked.Resume resume) = Resume resume.image.now resume.workers
 meant (asked.Demo demo) = Demo demo.number demo.workers
 
--- the journal that a command reads behind its class files
-abbrev pub journal_read : Request → List (List ℕ)
-journal_read (Replay main journal steps args files) = journal ∷ []
-journal_read request = []
+-- the journal or the image that a command reads, behind its class files
+abbrev pub other_read : Request → List (List ℕ)
+other_read (Replay main journal steps args files) = journal ∷ []
+other_read (Resume image workers) = image ∷ []
+other_read request = []
 
 -- a word or none, as a list of words
 abbrev pub listed_word : Option (List ℕ) → List (List ℕ)

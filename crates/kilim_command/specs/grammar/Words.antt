@@ -4,6 +4,8 @@
 --     weave --to=DIR FILE..
 --     run --main=NAME [--workers=W] [--steps=N] FILE.. [-- INT..]
 --     replay --main=NAME --journal=FILE [--steps=N] FILE.. [-- INT..]
+--     save --main=NAME --entries=K --image=FILE [--steps=N] FILE.. [-- INT..]
+--     resume --image=FILE [--workers=W]
 --     demo --number=D [--workers=W]
 --
 -- The command is the first word. Options stand behind it, in any order, each at most once.
@@ -23,6 +25,11 @@ pub data Request : Type 0 where
   Run : (main : List ℕ) (workers steps : ℕ) (args : List ℤ) (files : List (List ℕ)) → Request
   -- to check a journal, in a file of that name, against the main class of these files, with the limits of a run
   Replay : (main journal : List ℕ) (steps : ℕ) (args : List ℤ) (files : List (List ℕ)) → Request
+  -- to run the main class of these files until its journal has so many entries, with the limits of a run, and to write the image of that run into
+  -- a file of that name
+  Save : (main image : List ℕ) (entries steps : ℕ) (args : List ℤ) (files : List (List ℕ)) → Request
+  -- to go on with a run from its image, in a file of that name, with so many workers
+  Resume : (image : List ℕ) (workers : ℕ) → Request
   -- to run the demo of a number, with so many workers
   Demo : (number workers : ℕ) → Request
 
@@ -79,6 +86,18 @@ journal_option = codes "--journal="
 abbrev pub is_replay_option : List ℕ → Bool
 is_replay_option word = is_some (value_behind main_option word) || (is_some (value_behind journal_option word) || is_some (value_behind steps_option word))
 
+abbrev pub entries_option : List ℕ
+entries_option = codes "--entries="
+
+abbrev pub image_option : List ℕ
+image_option = codes "--image="
+
+abbrev pub is_save_option : List ℕ → Bool
+is_save_option word = is_some (value_behind main_option word) || (is_some (value_behind entries_option word) || (is_some (value_behind image_option word) || is_some (value_behind steps_option word)))
+
+abbrev pub is_resume_option : List ℕ → Bool
+is_resume_option word = is_some (value_behind image_option word) || is_some (value_behind workers_option word)
+
 abbrev pub number_option : List ℕ
 number_option = codes "--number="
 
@@ -115,6 +134,10 @@ number_of most values = None
 -- the greatest number of a demo
 abbrev pub most_number : ℕ
 most_number = 18446744073709551615
+
+-- the most entries that a run that is saved may be asked for
+abbrev pub most_entries : ℕ
+most_entries = 1000000000
 
 abbrev pub most_workers : ℕ
 most_workers = 16
@@ -201,6 +224,33 @@ replay_behind options others = replay_of options (take (count_plain others) othe
 abbrev pub replay_request : List (List ℕ) → Option Request
 replay_request words = replay_behind (take (count_hyphened words) words) (drop (count_hyphened words) words)
 
+abbrev pub save_with : List (List ℕ) → (main image : Option (List ℕ)) → (entries steps : Option ℕ) → Option (List ℤ) → Option Request
+save_with files (Some main) (Some image) (Some entries) (Some steps) (Some args) = Some (Save main image entries steps args files)
+save_with files main image entries steps args = None
+
+abbrev pub save_of : (options files behind : List (List ℕ)) → Option Request
+save_of options files behind =
+    if list_all is_save_option options && are_files files then
+    save_with files (text_in (values_of main_option options)) (file_in (values_of image_option options)) (number_of most_entries (values_of entries_option options)) (number_or default_steps most_steps (values_of steps_option options)) (args_in behind)
+    else None
+
+abbrev pub save_behind : (options others : List (List ℕ)) → Option Request
+save_behind options others = save_of options (take (count_plain others) others) (drop (count_plain others) others)
+
+abbrev pub save_request : List (List ℕ) → Option Request
+save_request words = save_behind (take (count_hyphened words) words) (drop (count_hyphened words) words)
+
+abbrev pub resume_with : Option (List ℕ) → Option ℕ → Option Request
+resume_with (Some image) (Some workers) = Some (Resume image workers)
+resume_with image workers = None
+
+-- options alone
+abbrev pub resume_request : List (List ℕ) → Option Request
+resume_request words =
+    if list_all is_resume_option words then
+    resume_with (file_in (values_of image_option words)) (number_or 1 most_workers (values_of workers_option words))
+    else None
+
 abbrev pub demo_with : Option ℕ → Option ℕ → Option Request
 demo_with (Some number) (Some workers) = Some (Demo number workers)
 demo_with number workers = None
@@ -220,8 +270,10 @@ request_of (command ∷ words) =
     else (if bytes_eq command (codes "weave") then weave_request words
     else (if bytes_eq command (codes "run") then run_request words
     else (if bytes_eq command (codes "replay") then replay_request words
+    else (if bytes_eq command (codes "save") then save_request words
+    else (if bytes_eq command (codes "resume") then resume_request words
     else (if bytes_eq command (codes "demo") then demo_request words
-    else None))))
+    else None))))))
 
 -- the class files that a command reads
 abbrev pub class_files : Request → List (List ℕ)
@@ -229,12 +281,16 @@ class_files (Check files) = files
 class_files (Weave to files) = files
 class_files (Run main workers steps args files) = files
 class_files (Replay main journal steps args files) = files
+class_files (Save main image entries steps args files) = files
+class_files (Resume image workers) = []
 class_files (Demo number workers) = []
 
--- all files that a command reads, in their order: a journal is read behind the class files
+-- all files that a command reads, in their order: a journal is read behind the class files; of an image the class files are parts
 abbrev pub files_read : Request → List (List ℕ)
 files_read (Check files) = files
 files_read (Weave to files) = files
 files_read (Run main workers steps args files) = files
 files_read (Replay main journal steps args files) = files ++ journal ∷ []
+files_read (Save main image entries steps args files) = files
+files_read (Resume image workers) = image ∷ []
 files_read (Demo number workers) = []

@@ -6,9 +6,10 @@ ghost use Rattle.std.specs.List.{list_all};
 ghost use Rattle.std.specs.Str.{bytes_eq};
 ghost use Rattle.std.specs.String.{string_bytes};
 ghost use Rattle.kilim_command.specs.grammar.Numbers.{int_by};
-ghost use Rattle.kilim_command.specs.grammar.Parts.{is_int, journal_read, listed_word, meant, numbers_of};
+ghost use Rattle.kilim_command.specs.grammar.Parts.{is_int, listed_word, other_read, meant, numbers_of};
 ghost use Rattle.kilim_command.specs.grammar.Words.{are_files, args_in, check_request, class_files, count_hyphened, count_plain, demo_request, demo_with, file_in, ints_of, is_file, is_hyphened, is_option, is_replay_option, journal_option, replay_behind, replay_of, replay_request, replay_with, request_of, run_behind, run_of, run_request, run_with, value_behind, values_of, is_weave_option, weave_of, weave_request, weave_with};
 
+use crate::grammar::images::{resume_request, save_request};
 use crate::grammar::numbers::int_of;
 use crate::grammar::options::{
     Values, are_demo_options, are_options, are_replay_options, are_weave_options, demo_number,
@@ -53,6 +54,31 @@ pub struct ReplayWords<'a> {
     pub files: &'a [String],
 }
 
+/// What `save` is given.
+#[derive(Drop)]
+pub struct SaveWords<'a> {
+    /// The name of the main class.
+    pub main: &'a str,
+    /// The file into which the image is written.
+    pub image: &'a str,
+    /// How many entries the journal is to have, if the run makes so many.
+    pub entries: u64,
+    /// The most instructions of each task.
+    pub steps: u64,
+    /// The words behind `--`, of which each writes an integer of 32 bits.
+    pub args: &'a [String],
+    pub files: &'a [String],
+}
+
+/// What `resume` is given.
+#[derive(Clone, Copy)]
+pub struct ResumeWords<'a> {
+    /// The file with the image.
+    pub image: &'a str,
+    /// From 1 to 16.
+    pub workers: u64,
+}
+
 /// What `demo` is given.
 #[derive(Clone, Copy)]
 pub struct DemoWords {
@@ -69,6 +95,8 @@ pub enum Asked<'a> {
     Weave(WeaveWords<'a>),
     Run(RunWords<'a>),
     Replay(ReplayWords<'a>),
+    Save(SaveWords<'a>),
+    Resume(ResumeWords<'a>),
     Demo(DemoWords),
 }
 
@@ -82,16 +110,19 @@ impl Asked<'_> {
             Asked::Weave(weave) => weave.files,
             Asked::Run(run) => run.files,
             Asked::Replay(replay) => replay.files,
+            Asked::Save(save) => save.files,
+            Asked::Resume(_) => &[],
             Asked::Demo(_) => &[],
         }
     }
 
-    /// The name of the file with a journal, which is read behind the class files.
-    pub fn journal(&self) -> Option<&str>
-        ensures { listed_word (option_copied result) ≡ journal_read (meant self.now) }
+    /// The name of the file with a journal, which is read behind the class files, or with an image.
+    pub fn other(&self) -> Option<&str>
+        ensures { listed_word (option_copied result) ≡ other_read (meant self.now) }
     {
         match self {
             Asked::Replay(replay) => Some(replay.journal),
+            Asked::Resume(resume) => Some(resume.image),
             _ => None,
         }
     }
@@ -106,7 +137,8 @@ fn is_hyphened(word: &str) -> bool
     }
 }
 
-fn is_file(word: &str) -> bool
+/// Whether a word may name a file.
+pub fn is_file(word: &str) -> bool
     ensures { result ≡ is_file word.now }
 {
     match word.as_bytes() {
@@ -115,8 +147,8 @@ fn is_file(word: &str) -> bool
     }
 }
 
-// How many words stand first that begin with a hyphen.
-fn count_hyphened(words: &[String]) -> usize
+/// How many words stand first that begin with a hyphen.
+pub fn count_hyphened(words: &[String]) -> usize
     ensures count { result ≡ count_hyphened (map string_bytes words.now) }
     ensures within { result ≤ length words.now }
 {
@@ -128,8 +160,8 @@ fn count_hyphened(words: &[String]) -> usize
     words.len()
 }
 
-// How many words stand first that don't.
-fn count_plain(words: &[String]) -> usize
+/// How many words stand first that don't.
+pub fn count_plain(words: &[String]) -> usize
     ensures count { result ≡ count_plain (map string_bytes words.now) }
     ensures within { result ≤ length words.now }
 {
@@ -159,8 +191,9 @@ fn are_words(files: &[String]) -> bool
     !files.is_empty() && files.len() <= 1000 && all_files(files)
 }
 
+/// Whether the words are the names of at least one file and of at most 1,000.
 #[tactic(auto, using(crate::proofs::grammar::Mapped::are_words))]
-fn are_files(files: &[String]) -> bool
+pub fn are_files(files: &[String]) -> bool
     ensures are { result ≡ are_files (map string_bytes files.now) }
     ensures few { result ≡ true → length files.now ≤ 1000 }
 {
@@ -217,7 +250,8 @@ fn is_mark(word: &str) -> bool
     word == "--"
 }
 
-fn args_in(words: &[String]) -> Option<&[String]>
+/// The words behind `--`, if they write integers; none where no word stands.
+pub fn args_in(words: &[String]) -> Option<&[String]>
     ensures { option_map (λ ws. numbers_of (map string_bytes ws)) (option_copied result) ≡ args_in (map string_bytes words.now) }
 {
     match words {
@@ -443,6 +477,8 @@ fn asked_by<'a>(command: &str, words: &'a [String]) -> Option<Asked<'a>>
         "weave" => weave_request(words),
         "run" => run_request(words),
         "replay" => replay_request(words),
+        "save" => save_request(words),
+        "resume" => resume_request(words),
         "demo" => demo_request(words),
         _ => None,
     }

@@ -5,7 +5,7 @@ ghost use Rattle.std.specs.Option.{option_copied, option_map};
 ghost use Rattle.std.specs.List.{list_all};
 ghost use Rattle.std.specs.String.{string_bytes};
 ghost use Rattle.kilim_command.specs.grammar.Parts.{Tells};
-ghost use Rattle.kilim_command.specs.grammar.Words.{value_or, is_demo_option, is_option, is_replay_option, is_weave_option, number_of, number_option, number_or, steps_option, text_in, to_option, value_behind, values_of, workers_option};
+ghost use Rattle.kilim_command.specs.grammar.Words.{value_or, is_demo_option, is_option, is_replay_option, is_resume_option, is_save_option, is_weave_option, number_of, number_option, number_or, steps_option, text_in, to_option, value_behind, values_of, workers_option};
 
 use crate::grammar::numbers::{number_in, value_behind};
 
@@ -95,6 +95,56 @@ pub fn are_demo_options(words: &[String]) -> bool
         }
     }
     true
+}
+
+fn is_save_option(word: &str) -> bool
+    ensures { result ≡ is_save_option word.now }
+{
+    value_behind("--main=", word).is_some()
+        || value_behind("--entries=", word).is_some()
+        || value_behind("--image=", word).is_some()
+        || value_behind("--steps=", word).is_some()
+}
+
+/// Whether all of these words are options of `save`.
+pub fn are_save_options(words: &[String]) -> bool
+    ensures { result ≡ list_all is_save_option (map string_bytes words.now) }
+{
+    for word in words {
+        if !is_save_option(word.as_str()) {
+            return false;
+        }
+    }
+    true
+}
+
+fn is_resume_option(word: &str) -> bool
+    ensures { result ≡ is_resume_option word.now }
+{
+    value_behind("--image=", word).is_some() || value_behind("--workers=", word).is_some()
+}
+
+/// Whether all of these words are options of `resume`.
+pub fn are_resume_options(words: &[String]) -> bool
+    ensures { result ≡ list_all is_resume_option (map string_bytes words.now) }
+{
+    for word in words {
+        if !is_resume_option(word.as_str()) {
+            return false;
+        }
+    }
+    true
+}
+
+/// A number up to `most`, where the option stands once.
+pub fn number_of(most: u64, front: &str, options: &[String]) -> Option<u64>
+    ensures number { result ≡ number_of most (values_of front.now (map string_bytes options.now)) }
+    ensures most { IfSome result (λ n. n ≤ most) }
+{
+    match values_of(front, options) {
+        Values::One(value) => number_in(0, most, value),
+        _ => None,
+    }
 }
 
 /// The number of the demo.

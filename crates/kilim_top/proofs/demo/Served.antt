@@ -13,7 +13,7 @@ use Rattle.kilim_demo.specs.Laws.{DemoIsShort}
 use Rattle.kilim_stages.specs.declared.refusal.Refusal.{Refusal}
 use Rattle.kilim_run_model.specs.Runs.{Whole}
 use Rattle.kilim_weave.specs.declared.weaving.Woven.{Woven}
-use Rattle.kilim_top.specs.Served.{WovenIsServed}
+use Rattle.kilim_image_command.specs.Laws.{WovenIsServed}
 use Rattle.kilim_run.specs.Runs.{IsJournalOf, setting_of}
 use Rattle.kilim_fiber_laws.specs.Served.{CanServe}
 use Rattle.kilim_stages.specs.declared.woven_stage.stage.WovenProgram.{WovenProgram}
@@ -21,7 +21,7 @@ use Rattle.kilim_stages.specs.woven_stage.Stage.{IsWithMain, IsWovenOf}
 use Rattle.kilim_command.specs.DemoLine.{demo_line}
 use Rattle.kilim_top.specs.demo.Demo.{demo_limits, demo_texts, main_name, IsDemoLine}
 use Rattle.kilim_top.specs.demo.Ready.{IsReady}
-use Rattle.kilim_top.proofs.Mains.{fit_named}
+use Rattle.kilim_image_command.proofs.Mains.{fit_named}
 
 -- there are not too many to be linked
 pub few_texts : DemoIsShort → (number : ℕ) → length (demo_texts number) ≤ 1000

@@ -1,5 +1,5 @@
 -- What is answered for an accepted program, and for the bytes of files.
-use Rattle.std.specs.Prelude.{◌≡◌, ℕ, true, List, [], Option, Some, ◌⊎◌}
+use Rattle.std.specs.Prelude.{◌≡◌, ℕ, true, List, [], ◌∷◌, Option, Some, Result, Ok, Err, Vec, ◌⊎◌}
 use Rattle.kilim_program.specs.declared.names.ClassId.{ClassId}
 use Rattle.kilim_program.specs.Names.{class_named}
 use Rattle.kilim_program.specs.Program.{Program}
@@ -21,7 +21,12 @@ use Rattle.kilim_top.specs.declared.answer.Ready.{Ready}
 use Rattle.kilim_top.specs.declared.answer.Ready.TheVariants as ready
 use Rattle.kilim_command.specs.Report.{named_line}
 use Rattle.kilim_command.specs.RunText.{demo_number, run_text}
-use Rattle.kilim_top.specs.Outcome.{IsDone, IsReport}
+use Rattle.std.specs.declared.alloc.Global.{Global}
+use Rattle.kilim_image_command.specs.Resuming.{IsDiffersLine, IsGoneOn}
+use Rattle.kilim_image_command.specs.declared.resuming.Stopped.{Stopped}
+use Rattle.kilim_image_command.specs.declared.saving.Saved.{Saved}
+use Rattle.kilim_top.specs.declared.answer.Reply.{Reply}
+use Rattle.kilim_top.specs.Outcome.{IsDone, IsReport, file_of}
 
 -- the text of the journal of a whole run
 pub record IsTextOf (demo : Option ℕ) (set : Setting) (text : List ℕ) : Type 0 where
@@ -51,20 +56,41 @@ abbrev pub IsRefusedBy : Refusal → Ready → Type 0
 IsRefusedBy refusal.NoMemory to_do = ⊥
 IsRefusedBy (refusal.Report report) (ready.Reply reply) = (reply.status ≡ 1) × ((reply.files.items ≡ []) × (reply.text.items ≡ report.items))
 IsRefusedBy (refusal.Report report) (ready.Run plain woven class limits) = ⊥
+IsRefusedBy (refusal.Report report) (ready.Resume stopped) = ⊥
 
 -- a program is to be run by its woven form, and with the text of its run the work is done
 pub record IsToRun (work : Request) (files : List (List ℕ)) (set : Setting) (woven : Woven) : Type 0 where
   pub served : CanServe set woven.program woven.counted
   pub done : (text : List ℕ) → IsTextOf (demo_number work) set text → IsDone work files [] text
 
+-- a run goes on, and with the text of what follows the work is done, or with the line of an entry that can't come it is reported
+pub record IsToResume (work : Request) (files : List (List ℕ)) (stopped : Stopped) : Type 0 where
+  pub served : CanServe (setting_of stopped.plain stopped.main stopped.limits) stopped.woven.program stopped.woven.counted
+  pub done : (text : List ℕ) → IsGoneOn (setting_of stopped.plain stopped.main stopped.limits) stopped.journal.items text → IsDone work files [] text
+  pub reported : (text : List ℕ) → IsDiffersLine (setting_of stopped.plain stopped.main stopped.limits) stopped.journal.items text → IsReport work files text
+
 abbrev pub IsReadyFor : Request → List (List ℕ) → Ready → Type 0
 IsReadyFor work files (ready.Reply reply) = IsReplyFor work files reply.status reply.files.items reply.text.items
 IsReadyFor work files (ready.Run plain woven class limits) = IsToRun work files (setting_of plain class limits) woven
+IsReadyFor work files (ready.Resume stopped) = IsToResume work files stopped
+
+-- a run was saved: its image is to be written into the one file of that name, and its journal
+abbrev pub IsSavedReady : List ℕ → Saved → Ready → Type 0
+IsSavedReady path saved (ready.Reply reply) = (reply.status ≡ 0) × ((reply.files.items ≡ file_of path saved.image.items ∷ []) × (reply.text.items ≡ saved.text.items))
+IsSavedReady path saved (ready.Run plain woven class limits) = ⊥
+IsSavedReady path saved (ready.Resume stopped) = ⊥
+
+-- what is answered where a run went on, or an entry can't come
+abbrev pub IsAnsweredBy : Result (Vec ℕ Global) Refusal → Reply → Type 0
+IsAnsweredBy (Ok text) reply = (reply.status ≡ 0) × ((reply.files.items ≡ []) × (reply.text.items ≡ text.items))
+IsAnsweredBy (Err refusal.NoMemory) reply = ⊥
+IsAnsweredBy (Err (refusal.Report text)) reply = (reply.status ≡ 1) × ((reply.files.items ≡ []) × (reply.text.items ≡ text.items))
 
 -- the same for the demo of a number
 abbrev pub IsDemoReady : ℕ → Ready → Type 0
 IsDemoReady number (ready.Reply reply) = (reply.status ≡ 1) × ((reply.files.items ≡ []) × IsDemoReport number reply.text.items)
 IsDemoReady number (ready.Run plain woven class limits) = IsReady number plain woven class × (limits ≡ demo_limits)
+IsDemoReady number (ready.Resume stopped) = ⊥
 
 -- the main class of that name, with the program, its woven form and the limits as they are
 pub record IsMainOf (program : WovenProgram) (name : List ℕ) (limits : Limits) (set : Setting) (woven : Woven) : Type 0 where
@@ -77,7 +103,9 @@ pub record IsMainOf (program : WovenProgram) (name : List ℕ) (limits : Limits)
 abbrev pub IsWithoutMain : List ℕ → Ready → Type 0
 IsWithoutMain name (ready.Reply reply) = (reply.status ≡ 1) × ((reply.files.items ≡ []) × (reply.text.items ≡ named_line name))
 IsWithoutMain name (ready.Run plain woven class l) = ⊥
+IsWithoutMain name (ready.Resume stopped) = ⊥
 
 abbrev pub IsReadyOf : WovenProgram → List ℕ → Limits → Ready → Type 0
 IsReadyOf program name limits (ready.Reply reply) = (reply.status ≡ 1) × ((reply.files.items ≡ []) × IsNoMain program.plain name reply.text.items)
 IsReadyOf program name limits (ready.Run plain woven class l) = IsMainOf program name limits (setting_of plain class l) woven
+IsReadyOf program name limits (ready.Resume stopped) = ⊥

@@ -4,7 +4,7 @@ use Rattle.kilim_outside.specs.Causes.{Appended}
 use Rattle.kilim_command.specs.grammar.Words.{Request}
 use Rattle.kilim_outside.specs.written.OutputFile.{OutputFile}
 use Rattle.kilim_outside.specs.written.Written.{WroteFiles}
-use Rattle.kilim_top.specs.Outcome.{AsksForFiles, HowFar, IsDone, IsFault, IsFitFor, IsReport, IsToWrite, Outside}
+use Rattle.kilim_top.specs.Outcome.{AsksForFiles, HowFar, IsDone, IsFault, IsFitFor, IsBegun, IsLarge, IsReport, IsStageFault, IsToWrite, Outside}
 
 pub record Wrote0 (work : Request) (files : List (List ℕ)) (old new : Outside) : Type 0 where
   pub made : List OutputFile
@@ -34,7 +34,8 @@ pub record Responded (work : Request) (files : List (List ℕ)) (old new : Outsi
   pub write : status ≡ 4 → (front : WroteFrontOf work files old new) × IsFault front.made front.text old new front.how_far
   pub memory : status ≡ 5 → WroteFrontOf work files old new
   pub fit : status ≡ 1 → IsFitFor work files → ⊥
-  pub unreported : status ≡ 0 → (text : List ℕ) → IsReport work files text → ⊥
+  pub large : status ≡ 1 → IsBegun work files → (text : List ℕ) × IsLarge work files text × Appended old.written new.written text
+  pub unreported : status ≡ 0 → (text : List ℕ) → IsStageFault work files text → ⊥
   pub quiet : (status ≡ 0) ⊎ (status ≡ 1) → new.faults ≡ old.faults
   pub failed : (status ≡ 0) ⊎ (status ≡ 1) → new.failed ≡ old.failed
   pub contents : (AsksForFiles (Some work) → ⊥) ⊎ (status ≡ 1) → new.contents ≡ old.contents

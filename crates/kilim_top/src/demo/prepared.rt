@@ -7,9 +7,9 @@ ghost use Rattle.kilim_top.specs.demo.Demo.{demo_limits, demo_texts, main_name, 
 ghost use Rattle.kilim_top.specs.Inside.Answer.{IsDemoReady};
 
 use crate::answer::{Ready, refused};
-use crate::laws::woven_is_served;
 use kilim_class_file::class_file_is_spelled;
 use kilim_demo::{demo_fits, make_texts, no_names};
+use kilim_image_command::woven_is_served;
 use kilim_program::ClassId;
 use kilim_run_state::Limits;
 use kilim_stages::Refusal;

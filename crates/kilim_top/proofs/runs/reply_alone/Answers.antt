@@ -4,6 +4,7 @@ use Rattle.kilim_command.specs.grammar.Parts.{meant}
 use Rattle.kilim_top.specs.declared.answer.Ready.{Ready}
 use Rattle.kilim_top.specs.Inside.Answer.{IsReadyFor}
 use Rattle.kilim_top.proofs.Replies.{ran}
+use Rattle.kilim_top.proofs.Stopping.{went}
 use Rattle.kilim_top.proofs.runs.reply_alone.Goals as goal
 
 pub returns-in-Ok-run_alone : goal.returns-in-Ok-run_alone
@@ -18,11 +19,18 @@ run_reply-requires g c = c.in-Ok-run_alone.ensures.readable
 pub run_alone-requires-after_bounds : goal.run_alone-requires-after_bounds
 run_alone-requires-after_bounds g c κs within = (subst (λ (r : Ready). IsReadyFor (meant c.args.asked.now) c.args.files.now r) c.in-Run.is c.in-Ok.ensures).served
 
+pub returns-in-Resume : goal.returns-in-Resume
+returns-in-Resume g c =
+    went (meant c.args.asked.now) c.args.files.now c.in-Resume.stopped c.resume_run_alone.result c.resume_reply.result (subst (λ (r : Ready). IsReadyFor (meant c.args.asked.now) c.args.files.now r) c.in-Resume.is c.in-Ok.ensures) c.resume_run_alone.ensures.text c.resume_run_alone.ensures.report c.resume_reply.ensures
+
+pub resume_run_alone-requires-after_bounds : goal.resume_run_alone-requires-after_bounds
+resume_run_alone-requires-after_bounds g c κs within = (subst (λ (r : Ready). IsReadyFor (meant c.args.asked.now) c.args.files.now r) c.in-Resume.is c.in-Ok.ensures).served
+
 pub returns-in-Reply : goal.returns-in-Reply
 returns-in-Reply g c = subst (λ (r : Ready). IsReadyFor (meant c.args.asked.now) c.args.files.now r) c.in-Reply.is c.in-Ok.ensures
 
 pub prepare-requires-clause-few : goal.prepare-requires-clause-few
-prepare-requires-clause-few g c = c.requires.few
+prepare-requires-clause-few g c = λ κs within. c.requires.few
 
 pub prepare-requires-clause-same : goal.prepare-requires-clause-same
-prepare-requires-clause-same g c = c.requires.same
+prepare-requires-clause-same g c = λ κs within. c.requires.same

@@ -12,7 +12,8 @@ write_files-requires g c =
 
 pub returns-in-Ok-write_all : goal.returns-in-Ok-write_all
 returns-in-Ok-write_all g c =
-    responded_whole (meant c.args.asked.now) c.args.bytes.now c.as_slice.result.now c.as_slice-in-Ok.result.now _ _ c.never_both.ensures c.one_program_of.ensures c.never_weavable_and_reported.ensures c.never_whole_and_reported.ensures c.woven_is_not_reported.ensures c.args.reply.now.status
+    responded_whole (meant c.args.asked.now) c.args.bytes.now c.as_slice.result.now c.as_slice-in-Ok.result.now _ _ c.never_both.ensures c.one_program_of.ensures c.never_weavable_and_reported.ensures c.never_whole_and_reported.ensures c.woven_is_not_reported.ensures c.never_begun_and_reported.ensures
+    c.never_saved_and_reported.ensures c.never_gone_on_and_reported.ensures c.args.reply.now.status
     (reply_as (meant c.args.asked.now) c.args.bytes.now c.args.reply.now.status _ _ _ _ c.as_slice.ensures.value c.as_slice-in-Ok.ensures.value c.requires) c.in-Ok.ensures.all c.in-Ok.ensures.quiet c.in-Ok-write_all.ensures.quiet
     c.in-Ok-write_all.ensures.ok c.in-Ok.ensures.none
 
