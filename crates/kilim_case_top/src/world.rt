@@ -39,13 +39,26 @@ pub fn empty(alloc: Global) -> World {
     }
 }
 
-// Whether a word is one of a class file, with changes or without.
-fn is_class_file(word: &str) -> bool {
+// Whether a name, with changes or without, ends so.
+fn has_end(word: &str, end: &str) -> bool {
     let name = match word.split_once(',') {
         Some((name, _)) => name,
         None => word,
     };
-    name.ends_with(".class")
+    name.ends_with(end)
+}
+
+// The file that a word names, with its changes: a class file, or the image or the journal of an option.
+fn file_in(word: &str) -> Option<&str> {
+    match word.split_once("--image=") {
+        Some(("", name)) if has_end(name, ".image") => return Some(name),
+        _ => {}
+    }
+    match word.split_once("--journal=") {
+        Some(("", name)) => Some(name),
+        _ if has_end(word, ".class") => Some(word),
+        _ => None,
+    }
 }
 
 // A file of these bytes, named by the whole word; whether there was memory.
@@ -61,14 +74,13 @@ fn push_file(files: &mut Seq<NamedFile>, alloc: Global, word: &str, bytes: Vec<u
     }
 }
 
-// The file of a word, which may have changes behind its name, as it lies where the program runs. A word that doesn't end as a class
-// file does names no file.
+// The file of a word, which may have changes behind its name, as it lies where the program runs.
 fn load_file<R: Files>(rt: &R, alloc: Global, word: &str, files: &mut Seq<NamedFile>) -> bool {
-    if !is_class_file(word) {
+    let Some(name) = file_in(word) else {
         return true;
-    }
-    match changed(rt, alloc, word) {
-        Some(bytes) => push_file(files, alloc, word, bytes),
+    };
+    match changed(rt, alloc, name) {
+        Some(bytes) => push_file(files, alloc, name, bytes),
         None => false,
     }
 }
@@ -80,7 +92,7 @@ fn push_word(words: &mut Vec<String>, alloc: Global, word: &str) -> bool {
     }
 }
 
-/// Puts the words of a call into a world, and the class files that they name; whether that was possible.
+/// Puts the words of a call into a world, and the files that they name; whether that was possible.
 pub fn load<R: Files>(rt: &R, alloc: Global, words: &[String], world: &mut World) -> bool {
     for word in words {
         if !push_word(&mut world.words, alloc, word.as_str())
