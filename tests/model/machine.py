@@ -71,7 +71,8 @@ BUILT_IN = {
     "kilim/Message": ("java/lang/Object", set()),
     "kilim/Pausable": ("java/lang/Object", set()),
     "kilim/Task": ("java/lang/Object", {"<init>()V", "start()V", "execute()V"}),
-    "kilim/Mailbox": ("java/lang/Object", {"<init>()V", "put(Lkilim/Message;)V", "get()Lkilim/Message;", "getnb()Lkilim/Message;"}),
+    "kilim/Mailbox": ("java/lang/Object", {"<init>()V", "<init>(I)V", "put(Lkilim/Message;)V", "putw(Lkilim/Message;)V",
+                                           "get()Lkilim/Message;", "getnb()Lkilim/Message;"}),
     "kilim/Sys": ("java/lang/Object", {"print(I)V", "print(J)V", "print(Ljava/lang/String;)V", "yield()V", "argCount()I", "arg(I)I",
                                        "take([Lkilim/Message;I)Lkilim/Message;"}),
     "java/lang/Throwable": ("java/lang/Object", {"<init>()V"}),
@@ -737,11 +738,7 @@ def built_in(t, f, method, args):
     elif word.startswith("equals"):
         f.stack.append(int(isinstance(args[1], Text) and args[1] == args[0]))
     elif owner == "kilim/Mailbox":
-        if word.startswith("put"):
-            if held(args[1]) is not None and is_large(args[1]):
-                raise End("large")
-            return ("put", args[0], args[1])
-        return ("take" if word.startswith("get()") else "probe", args[0])
+        return of_mailbox(word, args)
     elif word.startswith("print"):
         return ("print", Long(args[0]) if word == "print(J)V" else args[0])
     elif word == "yield()V":
@@ -758,6 +755,19 @@ def built_in(t, f, method, args):
         f.stack.append(args[0].elements[args[1]])
         args[0].elements[args[1]] = None
     return None
+
+
+def of_mailbox(word, args):
+    """The action of a mailbox's method. Whether a message is there, and how large its tree is, is asked before whether the mailbox is full."""
+    if word == "<init>(I)V":
+        if args[1] < 1:
+            raise End("size")
+        return ("bound", args[0], args[1])
+    if word.startswith("put"):
+        if is_large(held(args[1])):
+            raise End("large")
+        return (word[:word.index("(")], args[0], args[1])
+    return ("take" if word.startswith("get()") else "probe", args[0])
 
 
 @op(187)

@@ -9,7 +9,7 @@ import collections
 import sys
 
 from lines import bad_line
-from machine import MOST_TASKS, Program, Thread, plain, shape
+from machine import MOST_TASKS, Program, Thread, is_large, plain, shape
 from run import words_read
 
 
@@ -19,7 +19,7 @@ class Replay:
         first = Thread(program, 0, steps, args)
         first.boot(main)
         self.threads, self.pending, self.ended = [first], {}, set()
-        self.queues, self.puts = collections.defaultdict(collections.deque), collections.Counter()
+        self.queues, self.puts, self.bounds = collections.defaultdict(collections.deque), collections.Counter(), {}
 
     def next(self, task):
         """What a thread does next, behind its yields."""
@@ -32,7 +32,13 @@ class Replay:
             self.pending[task] = action
         return self.pending[task]
 
+    def is_full(self, box):
+        return box in self.bounds and len(self.queues[box]) >= self.bounds[box]
+
     def waits(self, action):
+        """Whether an action has to wait. The tree of a put may have become too large meanwhile: then it ends its task instead."""
+        if action[0] == "putw":
+            return self.is_full(action[1]) and not is_large(action[2])
         return action[0] == "take" and not self.queues[action[1]]
 
     def verdict(self, lines):
@@ -68,14 +74,18 @@ class Replay:
         """Does an action, and gives its text."""
         thread = self.threads[task]
         word = action[0]
-        if word in ("end", "large") or word == "start" and len(self.threads) == MOST_TASKS:
+        if word in ("end", "large") or word == "start" and len(self.threads) == MOST_TASKS or word == "put" and self.is_full(action[1]):
             self.ended.add(task)
-            return "end " + (action[1] if word == "end" else "large" if word == "large" else "tasks")
+            return "end " + {"end": action[1], "large": "large", "start": "tasks", "put": "full"}[word]
         del self.pending[task]
         if word == "print":
             thread.answered()
             return "print " + plain(action[1])
-        if word == "put":
+        if word == "bound":
+            self.bounds[action[1]] = action[2]
+            thread.answered()
+            return "bound %s %d" % action[1:]
+        if word in ("put", "putw"):
             return self.put(thread, *action[1:])
         if word == "start":
             return self.start(thread, action[1])

@@ -1,6 +1,7 @@
 #!/usr/bin/env python3
 """The journal of a run by one worker, by a model of the schedule that was written apart from the program: ready tasks stand in a
-list, the first one runs until it waits, yields or ends; a start and a yield stand behind, and a put wakes the first that waits.
+list, the first one runs until it waits, yields or ends; a start and a yield stand behind. A put wakes the first that waits at its mailbox
+for a message, a take the first that waits there for room.
 
     tests/model/run.py --main=NAME [--workers=W] [--steps=N] FILE.. [-- INT..]
 """
@@ -15,7 +16,7 @@ STEPS = 1000000
 class Run:
     def __init__(self, program, main, steps, args):
         self.program, self.steps, self.args = program, steps, args
-        self.lines, self.queues, self.waiting, self.puts, self.takes = [], {}, {}, {}, {}
+        self.lines, self.queues, self.waiting, self.puts, self.takes, self.bounds, self.kept = [], {}, {}, {}, {}, {}, {}
         first = Thread(program, 0, steps, args)
         first.boot(main)
         self.threads, self.ready = [first], collections.deque([0])
@@ -23,10 +24,13 @@ class Run:
     def queue(self, box):
         return self.queues.setdefault(box, collections.deque())
 
+    def is_full(self, box):
+        return box in self.bounds and len(self.queue(box)) >= self.bounds[box]
+
     def run(self):
         while self.ready:
             self.lend(self.threads[self.ready.popleft()])
-        waits = [(task, box) for box, tasks in self.waiting.items() for task in tasks]
+        waits = [(task, box) for (_, box), tasks in self.waiting.items() for task in tasks]
         for task, box in sorted(waits, key=lambda wait: wait[0]):
             self.lines.append("%d waits %s" % (task, box))
         return self.lines
@@ -37,7 +41,8 @@ class Run:
     def lend(self, thread):
         """Runs one task until it rests or ends."""
         while True:
-            action = thread.next()
+            # a task that waited for room makes the same put again, and asks nothing of its message
+            action = self.kept.pop(thread.number, None) or thread.next()
             word = action[0]
             if word == "end":
                 return self.say(thread, "end " + action[1])
@@ -46,9 +51,9 @@ class Run:
             if word == "yield":
                 thread.answered()
                 return self.ready.append(thread.number)
-            if word == "take" and not self.queue(action[1]):
-                thread.frames[-1].stack.append(action[1])
-                return self.waiting.setdefault(action[1], collections.deque()).append(thread.number)
+            if word == "take" and not self.queue(action[1]) or word == "putw" and self.is_full(action[1]):
+                self.kept[thread.number] = action
+                return self.waiting.setdefault((word, action[1]), collections.deque()).append(thread.number)
             if not self.act(thread, action):
                 return None
 
@@ -57,8 +62,15 @@ class Run:
         if word == "print":
             self.say(thread, "print " + plain(action[1]))
             thread.answered()
-        elif word == "put":
+        elif word == "put" and self.is_full(action[1]):
+            self.say(thread, "end full")
+            return False
+        elif word in ("put", "putw"):
             self.put(thread, *action[1:])
+        elif word == "bound":
+            self.bounds[action[1]] = action[2]
+            self.say(thread, "bound %s %d" % action[1:])
+            thread.answered()
         elif word == "start":
             return self.start(thread, action[1])
         else:
@@ -69,9 +81,13 @@ class Run:
         number = self.puts[box] = self.puts.get(box, -1) + 1
         self.say(thread, "put %s #%d %s" % (box, number, shape(self.program, message)))
         self.queue(box).append(message)
-        if self.waiting.get(box):
-            self.ready.append(self.waiting[box].popleft())
+        self.wake("take", box)
         thread.answered()
+
+    def wake(self, word, box):
+        """The first task that waits at a mailbox for a message, or for room, stands behind those that are ready."""
+        if self.waiting.get((word, box)):
+            self.ready.append(self.waiting[word, box].popleft())
 
     def take(self, thread, box):
         if not self.queue(box):
@@ -80,6 +96,7 @@ class Run:
         number = self.takes[box] = self.takes.get(box, -1) + 1
         self.say(thread, "take %s #%d" % (box, number))
         thread.answered(self.queue(box).popleft())
+        self.wake("putw", box)
 
     def start(self, thread, root):
         if len(self.threads) == MOST_TASKS:

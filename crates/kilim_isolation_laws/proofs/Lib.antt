@@ -1,6 +1,5 @@
 pub mod Grounds
 pub mod Natives
-pub mod NotYet
 pub mod Moving
 pub mod Beginning
 pub mod Keeping

@@ -1,6 +1,6 @@
 -- What the built-in methods are that give a tree away, and `execute`.
 use Rattle.std.proofs.Common.{◌≡◌, ℕ, zero, suc, ◌+◌, Bool, true, false, cond, List, [], ◌∷◌, length, Option, Some, None, refl, sym, ap, ◌∙◌}
-use Rattle.std.specs.Prelude.{◌&&◌, ◌||◌, codes, not}
+use Rattle.std.specs.Prelude.{◌&&◌, ◌||◌, codes}
 use Rattle.std.specs.List.{AllByRecursion, list_any}
 use Rattle.std.specs.Str.{bytes_eq}
 use Rattle.std.proofs.lemmas.Bool.{or_left}
@@ -19,12 +19,12 @@ use Rattle.kilim_program.specs.declared.ty.Ty.{Ty}
 use Rattle.kilim_program.specs.Program.{Program}
 use Rattle.kilim_program.proofs.BuiltIns.{constructors_too}
 use Rattle.kilim_program.specs.BuiltIn.{built_in_methods_in, class_id, class_type, exception_numbers}
-use Rattle.kilim_program.specs.Fits.{fits_type, is_named}
+use Rattle.kilim_program.specs.Fits.{fits_type}
 use Rattle.kilim_program.specs.Keeps.{Keeps}
 use Rattle.kilim_program.specs.Kinds.{class_kind, is_message, is_value_class}
-use Rattle.kilim_program.specs.Names.{class_at, class_name, is_named_task, is_task, method_at, ◌>>=◌, is_empty}
+use Rattle.kilim_program.specs.Names.{class_at, class_name, is_named_task, is_task, method_at, ◌>>=◌}
 use Rattle.kilim_program.specs.Same.{is_constructor}
-use Rattle.kilim_run_machine.specs.Natives.{Native, native_method, native_named, native_of, natives, native_in, is_of, is_built_in_constructor}
+use Rattle.kilim_run_machine.specs.Natives.{Native, native_method, native_named, native_of, natives}
 use Rattle.kilim_run_machine.specs.Natives as native
 use Rattle.kilim_run_machine.proofs.Named.{native_is_named}
 use Rattle.kilim_lemmas.proofs.Texts.{same_text}
@@ -33,7 +33,7 @@ use Rattle.kilim_isolation_rules.specs.Calls.{is_owned}
 use Rattle.kilim_type_sound.proofs.BuiltInMembers.{NamedAt, named_at}
 use Rattle.kilim_isolation_laws.proofs.typed_threads.fine.Natives.{built_in_one, first, task_name}
 use Rattle.kilim_isolation_laws.proofs.typed_threads.Booting.{line_begins}
-use Rattle.kilim_isolation_laws.specs.graph_rows.Holds.{Sort, Tree, Trees, object_sort, sort_by}
+use Rattle.kilim_isolation_laws.specs.graph_rows.Holds.{Tree, Trees, object_sort, sort_by}
 use Rattle.kilim_isolation_laws.proofs.sorts.KindsOfClasses.{ClassFlow}
 use Rattle.kilim_isolation_laws.proofs.sorts.Sorted.{classes_flow, message_is_tree}
 
@@ -52,24 +52,16 @@ no : {A : Type 0} → false ≡ true → A
 no e = absurd (cc)
 
 puts_so : (n : ℕ) → AllByRecursion (NamedSo (codes "put") (Puts n)) (built_in_methods_in Plain n)
-puts_so n = (no, (no, (no, (no, (no, (no, (no, (no, ((λ e. (refl, refl, refl, refl, refl)), (no, (no, (no, (no, (no, (no, (no, (no, (no, constructors_too (NamedSo (codes "put") (Puts n)) n exception_numbers [] (λ c. no) tt))))))))))))))))))
+puts_so n = (no, (no, (no, (no, (no, (no, (no, (no, (no, ((λ e. (refl, refl, refl, refl, refl)), (no, (no, (no, (no, (no, (no, (no, (no, (no, (no, constructors_too (NamedSo (codes "put") (Puts n)) n exception_numbers [] (λ c. no) tt))))))))))))))))))))
 
--- no built-in method is called so yet
 waits_so : (n : ℕ) → AllByRecursion (NamedSo (codes "putw") (Puts n)) (built_in_methods_in Plain n)
-waits_so n = (no, (no, (no, (no, (no, (no, (no, (no, (no, (no, (no, (no, (no, (no, (no, (no, (no, (no, constructors_too (NamedSo (codes "putw") (Puts n)) n exception_numbers [] (λ c. no) tt))))))))))))))))))
-
-no_waits : (n : ℕ) → AllByRecursion (NamedSo (codes "putw") (λ m. ⊥)) (built_in_methods_in Plain n)
-no_waits n = (no, (no, (no, (no, (no, (no, (no, (no, (no, (no, (no, (no, (no, (no, (no, (no, (no, (no, constructors_too (NamedSo (codes "putw") (λ m. ⊥)) n exception_numbers [] (λ c. no) tt))))))))))))))))))
-
--- a constructor has no parameters
-no_arguments : (n : ℕ) → AllByRecursion (NamedSo (codes "<init>") (λ m. is_empty m.params ≡ true)) (built_in_methods_in Plain n)
-no_arguments n = ((λ e. refl), (no, (no, (no, ((λ e. refl), (no, (no, ((λ e. refl), (no, (no, (no, (no, (no, (no, (no, (no, (no, (no, constructors_too (NamedSo (codes "<init>") (λ m. is_empty m.params ≡ true)) n exception_numbers [] (λ c e. refl) tt))))))))))))))))))
+waits_so n = (no, (no, (no, (no, (no, (no, (no, (no, (no, (no, ((λ e. (refl, refl, refl, refl, refl)), (no, (no, (no, (no, (no, (no, (no, (no, (no, constructors_too (NamedSo (codes "putw") (Puts n)) n exception_numbers [] (λ c. no) tt))))))))))))))))))))
 
 starts_so : (n : ℕ) → AllByRecursion (NamedSo (codes "start") (Begins n Free)) (built_in_methods_in Plain n)
-starts_so n = (no, (no, (no, (no, (no, ((λ e. (refl, refl, refl, refl, refl)), (no, (no, (no, (no, (no, (no, (no, (no, (no, (no, (no, (no, constructors_too (NamedSo (codes "start") (Begins n Free)) n exception_numbers [] (λ c. no) tt))))))))))))))))))
+starts_so n = (no, (no, (no, (no, (no, ((λ e. (refl, refl, refl, refl, refl)), (no, (no, (no, (no, (no, (no, (no, (no, (no, (no, (no, (no, (no, (no, constructors_too (NamedSo (codes "start") (Begins n Free)) n exception_numbers [] (λ c. no) tt))))))))))))))))))))
 
 executes_so : (n : ℕ) → AllByRecursion (NamedSo (codes "execute") (λ m. Begins n Cuttable m × (is_constructor m ≡ false) × (m.is_private ≡ false))) (built_in_methods_in Plain n)
-executes_so n = (no, (no, (no, (no, (no, (no, ((λ e. ((refl, refl, refl, refl, refl), refl, refl)), (no, (no, (no, (no, (no, (no, (no, (no, (no, (no, (no, constructors_too (NamedSo (codes "execute") (λ m. Begins n Cuttable m × (is_constructor m ≡ false) × (m.is_private ≡ false))) n exception_numbers [] (λ c. no) tt))))))))))))))))))
+executes_so n = (no, (no, (no, (no, (no, (no, ((λ e. ((refl, refl, refl, refl, refl), refl, refl)), (no, (no, (no, (no, (no, (no, (no, (no, (no, (no, (no, (no, (no, constructors_too (NamedSo (codes "execute") (λ m. Begins n Cuttable m × (is_constructor m ≡ false) × (m.is_private ≡ false))) n exception_numbers [] (λ c. no) tt))))))))))))))))))))
 
 -- ---- by what they do
 
@@ -80,10 +72,6 @@ is_put k = false
 abbrev is_wait : Native → Bool
 is_wait native.PutWait = true
 is_wait k = false
-
-abbrev is_bound : Native → Bool
-is_bound native.Bound = true
-is_bound k = false
 
 abbrev is_start : Native → Bool
 is_start native.Start = true
@@ -98,9 +86,6 @@ all_put = (no, (no, ((λ e. refl), (no, (no, (no, (no, (no, (no, (no, (no, (no, 
 all_wait : AllByRecursion (Called is_wait (codes "putw")) natives
 all_wait = (no, (no, (no, ((λ e. refl), (no, (no, (no, (no, (no, (no, (no, (no, (no, (no, (no, (no, (no, (no, (no, (no, (no, (no, tt))))))))))))))))))))))
 
-all_bound : AllByRecursion (Called is_bound (codes "<init>")) natives
-all_bound = (no, (no, (no, (no, ((λ e. refl), (no, (no, (no, (no, (no, (no, (no, (no, (no, (no, (no, (no, (no, (no, (no, (no, (no, tt))))))))))))))))))))))
-
 all_start : AllByRecursion (Called is_start (codes "start")) natives
 all_start = ((λ e. refl), (no, (no, (no, (no, (no, (no, (no, (no, (no, (no, (no, (no, (no, (no, (no, (no, (no, (no, (no, (no, (no, tt))))))))))))))))))))))
 
@@ -112,19 +97,6 @@ called_so test text (x ∷ ns) all class name k e is = by (bytes_eq class x.0) (
     by true true f g e again = ap (bytes_eq name) (sym (all.0 (ap test (let s : x.2 ≡ k = cc in s) ∙ is))) ∙ g
     by true false f g e again = again e
     by false b f g e again = again e
-
--- a constructor without parameters isn't handed out
-not_handed_out : (class : List ℕ) (m : Method) (k : Native) → m.built_in ≡ true → bytes_eq m.name (codes "<init>") ≡ true → is_empty m.params ≡ true → native_in class m ≡ Some k → ⊥
-not_handed_out class m k own name none e =
-    let is : is_built_in_constructor m ≡ true = ap (λ (z : Bool). z && (bytes_eq m.name (codes "<init>") && is_empty m.params)) own ∙ (ap (λ (z : Bool). z && is_empty m.params) name ∙ none) in
-    never (ap (λ (z : Bool). cond z (native_named natives class m.name) None) (ap (λ (z : Bool). m.built_in && not (z || (is_of class (codes "java/lang/String") m || (is_of class (codes "kilim/Sys") m && bytes_eq m.name (codes "take"))))) is ∙ at_false m.built_in))
-  where
-    at_false : (z : Bool) → (z && false) ≡ false
-    at_false true = refl
-    at_false false = refl
-
-    never : native_in class m ≡ None → ⊥
-    never o = cc
 
 message_at : (a b : ℕ) → NamedAt Plain a b 2 (codes "kilim/Message")
 message_at a b = record { class = _; at = refl; is = refl }
@@ -151,16 +123,6 @@ module _ (p : Program) (keeps : Keeps p) (form : p.form ≡ Plain) where
 
   pub wait_is : (id : MethodId) (m : Method) → method_at p id ≡ Some m → native_of p id ≡ Some native.PutWait → Puts n m
   wait_is id m there known = let w = name_of is_wait (codes "putw") all_wait id m native.PutWait there known refl in built_in_one p keeps form (NamedSo (codes "putw") (Puts n)) (waits_so n) id m there w.0 w.1
-
-  -- no program has one yet
-  pub no_wait : (id : MethodId) (m : Method) → method_at p id ≡ Some m → native_of p id ≡ Some native.PutWait → ⊥
-  no_wait id m there known = let w = name_of is_wait (codes "putw") all_wait id m native.PutWait there known refl in built_in_one p keeps form (NamedSo (codes "putw") (λ m. ⊥)) (no_waits n) id m there w.0 w.1
-
-  pub no_bound : (id : MethodId) (m : Method) → method_at p id ≡ Some m → native_of p id ≡ Some native.Bound → ⊥
-  no_bound id m there known =
-      let w = name_of is_bound (codes "<init>") all_bound id m native.Bound there known refl in
-      not_handed_out (class_name p m.owner) m native.Bound w.0 w.1 (built_in_one p keeps form (NamedSo (codes "<init>") (λ m. is_empty m.params ≡ true)) (no_arguments n) id m there w.0 w.1)
-      (sym (ap (λ (o : Option Method). o >>= native_method p) there) ∙ known)
 
   pub start_is : (id : MethodId) (m : Method) → method_at p id ≡ Some m → native_of p id ≡ Some native.Start → Begins n Free m
   start_is id m there known = let w = name_of is_start (codes "start") all_start id m native.Start there known refl in built_in_one p keeps form (NamedSo (codes "start") (Begins n Free)) (starts_so n) id m there w.0 w.1

@@ -89,7 +89,7 @@ built_there own ms (k ∷ ks) all x m at e = by (eqb (length own + k) x) refl e 
 
 -- the numbers of its methods behind those of the files
 abbrev own_numbers : List ℕ
-own_numbers = 7 ∷ 8 ∷ 9 ∷ 10 ∷ []
+own_numbers = 7 ∷ 8 ∷ 9 ∷ 10 ∷ 11 ∷ 12 ∷ []
 
 record MailboxClass (a m : ℕ) : Type 0 where
   class : Class

@@ -95,7 +95,7 @@ abbrev pub handed_out : List Bool
 handed_out =
     false ∷ false ∷ false ∷ false
     ∷ false ∷ true ∷ true
-    ∷ false ∷ true ∷ true ∷ true
+    ∷ false ∷ true ∷ true ∷ true ∷ true ∷ true
     ∷ true ∷ true ∷ true ∷ true ∷ true ∷ true ∷ false
     ∷ false ∷ false ∷ false ∷ false ∷ false ∷ false ∷ false ∷ false ∷ false ∷ false ∷ false
     ∷ []
@@ -134,7 +134,7 @@ Behind =
 
 -- a method that is static begins without a receiver
 abbrev pub Receivers : Type 0
-Receivers = (receiver_of by_hand (method_id 0) (Ref 3 ∷ Null ∷ []) ≡ Some (Ref 3)) × (receiver_of by_hand (method_id 13) (Int (pos 1) ∷ []) ≡ None)
+Receivers = (receiver_of by_hand (method_id 0) (Ref 3 ∷ Null ∷ []) ≡ Some (Ref 3)) × (receiver_of by_hand (method_id 15) (Int (pos 1) ∷ []) ≡ None)
 
 -- ---- exceptions
 

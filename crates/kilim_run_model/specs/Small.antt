@@ -26,7 +26,7 @@ abbrev pub task_constructor : ℕ
 task_constructor = 6
 
 abbrev pub print_int : ℕ
-print_int = 13
+print_int = 15
 
 -- aload_0, invokespecial kilim/Task.<init>()V, return
 abbrev pub constructor_code : List (ℕ × Instr)

@@ -63,20 +63,26 @@ module _ (p : Program) where
                         (
                           (λ s h. absurd (let z : false ≡ true = s in cc)),
                           (
-                            handed (built_in_method (codes "print") (class_id (n + 6)) ((int_type) ∷ []) None true false Safe (Safe ∷ [])) (codes "kilim/Sys") sys refl,
+                            (λ s h. absurd (let z : false ≡ true = s in cc)),
                             (
-                              handed (built_in_method (codes "print") (class_id (n + 6)) ((plain_type base.Long) ∷ []) None true false Safe (Safe ∷ [])) (codes "kilim/Sys") sys refl,
+                              (λ s h. absurd (let z : false ≡ true = s in cc)),
                               (
-                                handed (built_in_method (codes "print") (class_id (n + 6)) ((class_type (n + 1)) ∷ []) None true false Safe (Safe ∷ [])) (codes "kilim/Sys") sys refl,
+                                handed (built_in_method (codes "print") (class_id (n + 6)) ((int_type) ∷ []) None true false Safe (Safe ∷ [])) (codes "kilim/Sys") sys refl,
                                 (
-                                  handed (built_in_method (codes "yield") (class_id (n + 6)) (fiber_params Plain n) None true true Safe (fiber_qualifiers Plain)) (codes "kilim/Sys") sys refl,
+                                  handed (built_in_method (codes "print") (class_id (n + 6)) ((plain_type base.Long) ∷ []) None true false Safe (Safe ∷ [])) (codes "kilim/Sys") sys refl,
                                   (
-                                    handed (built_in_method (codes "argCount") (class_id (n + 6)) [] (Some int_type) true false Safe []) (codes "kilim/Sys") sys refl,
+                                    handed (built_in_method (codes "print") (class_id (n + 6)) ((class_type (n + 1)) ∷ []) None true false Safe (Safe ∷ [])) (codes "kilim/Sys") sys refl,
                                     (
-                                      handed (built_in_method (codes "arg") (class_id (n + 6)) (int_type ∷ []) (Some int_type) true false Safe (Safe ∷ [])) (codes "kilim/Sys") sys refl,
+                                      handed (built_in_method (codes "yield") (class_id (n + 6)) (fiber_params Plain n) None true true Safe (fiber_qualifiers Plain)) (codes "kilim/Sys") sys refl,
                                       (
-                                        (λ s h. (class_id (n + 2), refl, refl)),
-                                        constructors_too (TakesOnly p) n exception_numbers [] (λ c s h. absurd (let z : false ≡ true = s in cc)) tt,
+                                        handed (built_in_method (codes "argCount") (class_id (n + 6)) [] (Some int_type) true false Safe []) (codes "kilim/Sys") sys refl,
+                                        (
+                                          handed (built_in_method (codes "arg") (class_id (n + 6)) (int_type ∷ []) (Some int_type) true false Safe (Safe ∷ [])) (codes "kilim/Sys") sys refl,
+                                          (
+                                            (λ s h. (class_id (n + 2), refl, refl)),
+                                            constructors_too (TakesOnly p) n exception_numbers [] (λ c s h. absurd (let z : false ≡ true = s in cc)) tt,
+                                          ),
+                                        ),
                                       ),
                                     ),
                                   ),
@@ -120,42 +126,48 @@ module _ (p : Program) where
                         (
                           (λ s h. absurd (let z : false ≡ true = s in cc)),
                           (
-                            handed (built_in_method (codes "print") (class_id (n + 6)) ((int_type) ∷ []) None true false Safe (Safe ∷ [])) (codes "kilim/Sys") sys refl,
+                            (λ s h. absurd (let z : false ≡ true = s in cc)),
                             (
-                              handed (built_in_method (codes "print") (class_id (n + 6)) ((plain_type base.Long) ∷ []) None true false Safe (Safe ∷ [])) (codes "kilim/Sys") sys refl,
+                              (λ s h. absurd (let z : false ≡ true = s in cc)),
                               (
-                                handed (built_in_method (codes "print") (class_id (n + 6)) ((class_type (n + 1)) ∷ []) None true false Safe (Safe ∷ [])) (codes "kilim/Sys") sys refl,
+                                handed (built_in_method (codes "print") (class_id (n + 6)) ((int_type) ∷ []) None true false Safe (Safe ∷ [])) (codes "kilim/Sys") sys refl,
                                 (
-                                  handed (built_in_method (codes "yield") (class_id (n + 6)) (fiber_params Woven n) None true true Safe (fiber_qualifiers Woven)) (codes "kilim/Sys") sys refl,
+                                  handed (built_in_method (codes "print") (class_id (n + 6)) ((plain_type base.Long) ∷ []) None true false Safe (Safe ∷ [])) (codes "kilim/Sys") sys refl,
                                   (
-                                    handed (built_in_method (codes "argCount") (class_id (n + 6)) [] (Some int_type) true false Safe []) (codes "kilim/Sys") sys refl,
+                                    handed (built_in_method (codes "print") (class_id (n + 6)) ((class_type (n + 1)) ∷ []) None true false Safe (Safe ∷ [])) (codes "kilim/Sys") sys refl,
                                     (
-                                      handed (built_in_method (codes "arg") (class_id (n + 6)) (int_type ∷ []) (Some int_type) true false Safe (Safe ∷ [])) (codes "kilim/Sys") sys refl,
+                                      handed (built_in_method (codes "yield") (class_id (n + 6)) (fiber_params Woven n) None true true Safe (fiber_qualifiers Woven)) (codes "kilim/Sys") sys refl,
                                       (
-                                        (λ s h. (class_id (n + 2), refl, refl)),
-                                        constructors_too (TakesOnly p) n exception_numbers (fiber_methods Woven n) (λ c s h. absurd (let z : false ≡ true = s in cc)) (
-                                          (λ s h. absurd (let z : false ≡ true = s in cc)),
+                                        handed (built_in_method (codes "argCount") (class_id (n + 6)) [] (Some int_type) true false Safe []) (codes "kilim/Sys") sys refl,
+                                        (
+                                          handed (built_in_method (codes "arg") (class_id (n + 6)) (int_type ∷ []) (Some int_type) true false Safe (Safe ∷ [])) (codes "kilim/Sys") sys refl,
                                           (
-                                            (λ s h. absurd (let z : false ≡ true = s in cc)),
-                                            (
+                                            (λ s h. (class_id (n + 2), refl, refl)),
+                                            constructors_too (TakesOnly p) n exception_numbers (fiber_methods Woven n) (λ c s h. absurd (let z : false ≡ true = s in cc)) (
                                               (λ s h. absurd (let z : false ≡ true = s in cc)),
                                               (
-                                                handed (on_fiber n (codes "saveI") int_type) (codes "kilim/Fiber") fiber refl,
+                                                (λ s h. absurd (let z : false ≡ true = s in cc)),
                                                 (
-                                                  handed (on_fiber n (codes "saveJ") (plain_type base.Long)) (codes "kilim/Fiber") fiber refl,
+                                                  (λ s h. absurd (let z : false ≡ true = s in cc)),
                                                   (
-                                                    handed (on_fiber n (codes "saveA") (class_type n)) (codes "kilim/Fiber") fiber refl,
+                                                    handed (on_fiber n (codes "saveI") int_type) (codes "kilim/Fiber") fiber refl,
                                                     (
-                                                      handed (built_in_method (codes "place") (class_id (n + 18)) (int_type ∷ class_type n ∷ fiber_type n ∷ []) None true false Safe (Safe ∷ Safe ∷ Safe ∷ [])) (codes "kilim/Fiber") fiber refl,
+                                                      handed (on_fiber n (codes "saveJ") (plain_type base.Long)) (codes "kilim/Fiber") fiber refl,
                                                       (
-                                                        (λ s h. absurd (let z : false ≡ true = s in cc)),
+                                                        handed (on_fiber n (codes "saveA") (class_type n)) (codes "kilim/Fiber") fiber refl,
                                                         (
-                                                          (λ s h. absurd (let z : false ≡ true = s in cc)),
+                                                          handed (built_in_method (codes "place") (class_id (n + 18)) (int_type ∷ class_type n ∷ fiber_type n ∷ []) None true false Safe (Safe ∷ Safe ∷ Safe ∷ [])) (codes "kilim/Fiber") fiber refl,
                                                           (
                                                             (λ s h. absurd (let z : false ≡ true = s in cc)),
                                                             (
                                                               (λ s h. absurd (let z : false ≡ true = s in cc)),
-                                                              tt,
+                                                              (
+                                                                (λ s h. absurd (let z : false ≡ true = s in cc)),
+                                                                (
+                                                                  (λ s h. absurd (let z : false ≡ true = s in cc)),
+                                                                  tt,
+                                                                ),
+                                                              ),
                                                             ),
                                                           ),
                                                         ),

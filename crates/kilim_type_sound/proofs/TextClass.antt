@@ -63,15 +63,15 @@ module _ (p : Program) where
                   (
                     not_text (built_in_constructor (class_id (n + 5))) (codes "kilim/Mailbox") mailbox refl,
                     (
-                      not_text (built_in_method (codes "put") (class_id (n + 5)) (class_type (n + 2) ∷ []) None false false Safe (Free ∷ [])) (codes "kilim/Mailbox") mailbox refl,
+                      not_text (built_in_method (codes "<init>") (class_id (n + 5)) (int_type ∷ []) None false false Cuttable (Safe ∷ [])) (codes "kilim/Mailbox") mailbox refl,
                       (
-                        not_text (built_in_method (codes "get") (class_id (n + 5)) (fiber_params Plain n) (Some (class_type (n + 2))) false true Safe (fiber_qualifiers Plain)) (codes "kilim/Mailbox") mailbox refl,
+                        not_text (built_in_method (codes "put") (class_id (n + 5)) (class_type (n + 2) ∷ []) None false false Safe (Free ∷ [])) (codes "kilim/Mailbox") mailbox refl,
                         (
-                          not_text (built_in_method (codes "getnb") (class_id (n + 5)) [] (Some (class_type (n + 2))) false false Safe []) (codes "kilim/Mailbox") mailbox refl,
+                          not_text (built_in_method (codes "putw") (class_id (n + 5)) (class_type (n + 2) ∷ fiber_params Plain n) None false true Safe (Free ∷ fiber_qualifiers Plain)) (codes "kilim/Mailbox") mailbox refl,
                           (
-                            (λ t s. absurd (let z : true ≡ false = s in cc)),
+                            not_text (built_in_method (codes "get") (class_id (n + 5)) (fiber_params Plain n) (Some (class_type (n + 2))) false true Safe (fiber_qualifiers Plain)) (codes "kilim/Mailbox") mailbox refl,
                             (
-                              (λ t s. absurd (let z : true ≡ false = s in cc)),
+                              not_text (built_in_method (codes "getnb") (class_id (n + 5)) [] (Some (class_type (n + 2))) false false Safe []) (codes "kilim/Mailbox") mailbox refl,
                               (
                                 (λ t s. absurd (let z : true ≡ false = s in cc)),
                                 (
@@ -82,7 +82,13 @@ module _ (p : Program) where
                                       (λ t s. absurd (let z : true ≡ false = s in cc)),
                                       (
                                         (λ t s. absurd (let z : true ≡ false = s in cc)),
-                                        constructors_too (TextOnly p) n exception_numbers [] (λ c t s k. absurd (let z : true ≡ false = k in cc)) tt,
+                                        (
+                                          (λ t s. absurd (let z : true ≡ false = s in cc)),
+                                          (
+                                            (λ t s. absurd (let z : true ≡ false = s in cc)),
+                                            constructors_too (TextOnly p) n exception_numbers [] (λ c t s k. absurd (let z : true ≡ false = k in cc)) tt,
+                                          ),
+                                        ),
                                       ),
                                     ),
                                   ),
@@ -120,15 +126,15 @@ module _ (p : Program) where
                   (
                     not_text (built_in_constructor (class_id (n + 5))) (codes "kilim/Mailbox") mailbox refl,
                     (
-                      not_text (built_in_method (codes "put") (class_id (n + 5)) (class_type (n + 2) ∷ []) None false false Safe (Free ∷ [])) (codes "kilim/Mailbox") mailbox refl,
+                      not_text (built_in_method (codes "<init>") (class_id (n + 5)) (int_type ∷ []) None false false Cuttable (Safe ∷ [])) (codes "kilim/Mailbox") mailbox refl,
                       (
-                        not_text (built_in_method (codes "get") (class_id (n + 5)) (fiber_params Woven n) (Some (class_type (n + 2))) false true Safe (fiber_qualifiers Woven)) (codes "kilim/Mailbox") mailbox refl,
+                        not_text (built_in_method (codes "put") (class_id (n + 5)) (class_type (n + 2) ∷ []) None false false Safe (Free ∷ [])) (codes "kilim/Mailbox") mailbox refl,
                         (
-                          not_text (built_in_method (codes "getnb") (class_id (n + 5)) [] (Some (class_type (n + 2))) false false Safe []) (codes "kilim/Mailbox") mailbox refl,
+                          not_text (built_in_method (codes "putw") (class_id (n + 5)) (class_type (n + 2) ∷ fiber_params Woven n) None false true Safe (Free ∷ fiber_qualifiers Woven)) (codes "kilim/Mailbox") mailbox refl,
                           (
-                            (λ t s. absurd (let z : true ≡ false = s in cc)),
+                            not_text (built_in_method (codes "get") (class_id (n + 5)) (fiber_params Woven n) (Some (class_type (n + 2))) false true Safe (fiber_qualifiers Woven)) (codes "kilim/Mailbox") mailbox refl,
                             (
-                              (λ t s. absurd (let z : true ≡ false = s in cc)),
+                              not_text (built_in_method (codes "getnb") (class_id (n + 5)) [] (Some (class_type (n + 2))) false false Safe []) (codes "kilim/Mailbox") mailbox refl,
                               (
                                 (λ t s. absurd (let z : true ≡ false = s in cc)),
                                 (
@@ -139,29 +145,35 @@ module _ (p : Program) where
                                       (λ t s. absurd (let z : true ≡ false = s in cc)),
                                       (
                                         (λ t s. absurd (let z : true ≡ false = s in cc)),
-                                        constructors_too (TextOnly p) n exception_numbers (fiber_methods Woven n) (λ c t s k. absurd (let z : true ≡ false = k in cc)) (
-                                          not_text (of_fiber n (codes "pc") (Some (int_type))) (codes "kilim/Fiber") fiber refl,
+                                        (
+                                          (λ t s. absurd (let z : true ≡ false = s in cc)),
                                           (
-                                            not_text (of_fiber n (codes "down") (Some (fiber_type n))) (codes "kilim/Fiber") fiber refl,
-                                            (
-                                              not_text (of_fiber n (codes "up") (Some (int_type))) (codes "kilim/Fiber") fiber refl,
+                                            (λ t s. absurd (let z : true ≡ false = s in cc)),
+                                            constructors_too (TextOnly p) n exception_numbers (fiber_methods Woven n) (λ c t s k. absurd (let z : true ≡ false = k in cc)) (
+                                              not_text (of_fiber n (codes "pc") (Some (int_type))) (codes "kilim/Fiber") fiber refl,
                                               (
-                                                (λ t s. absurd (let z : true ≡ false = s in cc)),
+                                                not_text (of_fiber n (codes "down") (Some (fiber_type n))) (codes "kilim/Fiber") fiber refl,
                                                 (
-                                                  (λ t s. absurd (let z : true ≡ false = s in cc)),
+                                                  not_text (of_fiber n (codes "up") (Some (int_type))) (codes "kilim/Fiber") fiber refl,
                                                   (
                                                     (λ t s. absurd (let z : true ≡ false = s in cc)),
                                                     (
                                                       (λ t s. absurd (let z : true ≡ false = s in cc)),
                                                       (
-                                                        not_text (of_fiber n (codes "restI") (Some (int_type))) (codes "kilim/Fiber") fiber refl,
+                                                        (λ t s. absurd (let z : true ≡ false = s in cc)),
                                                         (
-                                                          not_text (of_fiber n (codes "restJ") (Some (plain_type base.Long))) (codes "kilim/Fiber") fiber refl,
+                                                          (λ t s. absurd (let z : true ≡ false = s in cc)),
                                                           (
-                                                            not_text (of_fiber n (codes "restA") (Some (class_type n))) (codes "kilim/Fiber") fiber refl,
+                                                            not_text (of_fiber n (codes "restI") (Some (int_type))) (codes "kilim/Fiber") fiber refl,
                                                             (
-                                                              not_text (of_fiber n (codes "receiver") (Some (class_type n))) (codes "kilim/Fiber") fiber refl,
-                                                              tt,
+                                                              not_text (of_fiber n (codes "restJ") (Some (plain_type base.Long))) (codes "kilim/Fiber") fiber refl,
+                                                              (
+                                                                not_text (of_fiber n (codes "restA") (Some (class_type n))) (codes "kilim/Fiber") fiber refl,
+                                                                (
+                                                                  not_text (of_fiber n (codes "receiver") (Some (class_type n))) (codes "kilim/Fiber") fiber refl,
+                                                                  tt,
+                                                                ),
+                                                              ),
                                                             ),
                                                           ),
                                                         ),

@@ -29,8 +29,8 @@ none_reads k p to i f r = first (eqb 0 p) f
     second true e = false≢true (subst (λ z. reads z k ≡ true) (sym (same_instr (Goto 0) i 6 to e)) r)
     second false e = none-some (i, to) e
 
-    first : (b : Bool) → cond b (behind (Invokestatic (method_id 16)) 3) (cond (eqb 3 p) (behind (Goto 0) 6) None) ≡ behind i to → ⊥
-    first true e = false≢true (subst (λ z. reads z k ≡ true) (sym (same_instr (Invokestatic (method_id 16)) i 3 to e)) r)
+    first : (b : Bool) → cond b (behind (Invokestatic (method_id 18)) 3) (cond (eqb 3 p) (behind (Goto 0) 6) None) ≡ behind i to → ⊥
+    first true e = false≢true (subst (λ z. reads z k ≡ true) (sym (same_instr (Invokestatic (method_id 18)) i 3 to e)) r)
     first false e = second (eqb 3 p) e
 
 none_live : (k p : ℕ) → Live loop_execute k p → ⊥
@@ -106,7 +106,7 @@ loop_is_woven = record {
                                         (refl, refl),
                                         (
                                           (refl, refl),
-                                          ((refl, refl), ((refl, refl), ((refl, refl), ((refl, refl), ((refl, refl), ((refl, refl), ((refl, refl), ((refl, refl), ((refl, refl), ((refl, refl), ((refl, refl), (refl, refl)))))))))))),
+                                          ((refl, refl), ((refl, refl), ((refl, refl), ((refl, refl), ((refl, refl), ((refl, refl), ((refl, refl), ((refl, refl), ((refl, refl), ((refl, refl), ((refl, refl), ((refl, refl), ((refl, refl), (refl, refl)))))))))))))),
                                         ),
                                       ),
                                     ),

@@ -35,11 +35,11 @@ of_class n = Object (class_type n)
 -- ---- a loop of one `yield`
 
 -- the class T, a task, then the built-in classes from 1 on. Its methods: 0 the constructor, 1 `execute`; then the built-in ones from 2
--- on, of which 6 is the task's constructor and 16 is `yield`
+-- on, of which 6 is the task's constructor and 18 is `yield`
 abbrev pub loop_execute : Method
 loop_execute =
     sample_method (codes "execute") 0 true 0 1 6
-    ((0, Invokestatic (method_id 16)) ∷ (3, Goto 0) ∷ [])
+    ((0, Invokestatic (method_id 18)) ∷ (3, Goto 0) ∷ [])
     ((0, record { locals = of_class 0 ∷ []; stack = [] }) ∷ [])
 
 abbrev pub loop : Program
@@ -57,14 +57,14 @@ loop_plan = plan_of loop loop_execute (λ place slot. false) (λ place. if nat_l
 abbrev pub no_old_locals : Frame
 no_old_locals = record { locals = Top ∷ Top ∷ of_class 19 ∷ of_class 0 ∷ []; stack = [] }
 
--- `execute`, woven: the fiber's members are the methods from 31 on
+-- `execute`, woven: the fiber's members are the methods from 33 on
 abbrev pub woven_loop_execute : Method
 woven_loop_execute = record (sample_method (codes "execute") 0 true 4 4 55
     ((0, Aload 1) ∷ (1, Astore 2) ∷ (2, Aload 0) ∷ (3, Astore 3)
-    ∷ (4, Aload 2) ∷ (5, Invokevirtual (method_id 31)) ∷ (8, Tableswitch 28 (pos 1) (52 ∷ []))
-    ∷ (28, Aload 2) ∷ (29, Invokevirtual (method_id 32)) ∷ (32, Invokestatic (method_id 16))
-    ∷ (35, Aload 2) ∷ (36, Invokevirtual (method_id 33)) ∷ (39, Ifeq 49)
-    ∷ (42, Iconst (pos 1)) ∷ (43, Aload 3) ∷ (44, Aload 2) ∷ (45, Invokestatic (method_id 37)) ∷ (48, Return)
+    ∷ (4, Aload 2) ∷ (5, Invokevirtual (method_id 33)) ∷ (8, Tableswitch 28 (pos 1) (52 ∷ []))
+    ∷ (28, Aload 2) ∷ (29, Invokevirtual (method_id 34)) ∷ (32, Invokestatic (method_id 18))
+    ∷ (35, Aload 2) ∷ (36, Invokevirtual (method_id 35)) ∷ (39, Ifeq 49)
+    ∷ (42, Iconst (pos 1)) ∷ (43, Aload 3) ∷ (44, Aload 2) ∷ (45, Invokestatic (method_id 39)) ∷ (48, Return)
     ∷ (49, Goto 28)
     ∷ (52, Goto 28)
     ∷ [])
@@ -90,7 +90,7 @@ woven_loop_marks = (true ∷ true ∷ true ∷ []) ∷ loop_marks ∷ map (λ m.
 -- ---- values across a pause
 
 -- the classes A, a task, and N, a message, then the built-in ones from 2 on; N's field 0 is an int. The methods: 0 A's constructor,
--- 1 `execute`, 2 N's constructor; then the built-in ones from 3 on: 14 prints an int, 17 is `yield`
+-- 1 `execute`, 2 N's constructor; then the built-in ones from 3 on: 16 prints an int, 19 is `yield`
 abbrev pub values_execute : Method
 values_execute =
     sample_method (codes "execute") 0 true 5 4 43
@@ -98,11 +98,11 @@ values_execute =
     ∷ (5, New (class_id 1)) ∷ (8, Dup) ∷ (9, Invokespecial (method_id 2)) ∷ (12, Astore 3)
     ∷ (13, Aload 3) ∷ (14, Bipush (pos 6)) ∷ (16, Putfield (record { 0 = 0 }))
     ∷ (19, Iconst (pos 5)) ∷ (20, Istore 1)
-    ∷ (21, Invokestatic (method_id 17))
-    ∷ (24, Iload 1) ∷ (25, Invokestatic (method_id 14))
-    ∷ (28, Aload 3) ∷ (29, Getfield (record { 0 = 0 })) ∷ (32, Invokestatic (method_id 14))
-    ∷ (35, L2i) ∷ (36, Invokestatic (method_id 14))
-    ∷ (39, Invokestatic (method_id 14))
+    ∷ (21, Invokestatic (method_id 19))
+    ∷ (24, Iload 1) ∷ (25, Invokestatic (method_id 16))
+    ∷ (28, Aload 3) ∷ (29, Getfield (record { 0 = 0 })) ∷ (32, Invokestatic (method_id 16))
+    ∷ (35, L2i) ∷ (36, Invokestatic (method_id 16))
+    ∷ (39, Invokestatic (method_id 16))
     ∷ (42, Return)
     ∷ [])
     []
@@ -122,31 +122,31 @@ values_live place slot = (slot == 1 && (nat_lt 20 place && nat_le place 24)) || 
 abbrev pub values_plan : Plan
 values_plan = plan_of values values_execute values_live (λ place. if nat_lt place 24 then place + 28 else place + 72) (λ number. 115)
 
--- `execute`, woven: an int and a long are below the call, an int and an object in locals. The fiber's members are the methods from 32 on.
+-- `execute`, woven: an int and a long are below the call, an int and an object in locals. The fiber's members are the methods from 34 on.
 abbrev pub woven_values : List (ℕ × Instr)
 woven_values =
     (0, Aload 1) ∷ (1, Astore 4) ∷ (3, Aload 0) ∷ (4, Astore 5)
-    ∷ (6, Aload 4) ∷ (8, Invokevirtual (method_id 32)) ∷ (11, Tableswitch 28 (pos 1) (115 ∷ []))
+    ∷ (6, Aload 4) ∷ (8, Invokevirtual (method_id 34)) ∷ (11, Tableswitch 28 (pos 1) (115 ∷ []))
     ∷ (28, Bipush (pos 8)) ∷ (30, Ldc2W (LongValue (pos 7)))
     ∷ (33, New (class_id 1)) ∷ (36, Dup) ∷ (37, Invokespecial (method_id 2)) ∷ (40, Astore 3)
     ∷ (41, Aload 3) ∷ (42, Bipush (pos 6)) ∷ (44, Putfield (record { 0 = 0 }))
     ∷ (47, Iconst (pos 5)) ∷ (48, Istore 1)
-    ∷ (49, Aload 4) ∷ (51, Invokevirtual (method_id 33)) ∷ (54, Invokestatic (method_id 17))
-    ∷ (57, Aload 4) ∷ (59, Invokevirtual (method_id 34)) ∷ (62, Ifeq 96)
-    ∷ (65, Aload 4) ∷ (67, Invokestatic (method_id 36))
-    ∷ (70, Aload 4) ∷ (72, Invokestatic (method_id 35))
-    ∷ (75, Iload 1) ∷ (76, Aload 4) ∷ (78, Invokestatic (method_id 35))
-    ∷ (81, Aload 3) ∷ (82, Aload 4) ∷ (84, Invokestatic (method_id 37))
-    ∷ (87, Iconst (pos 1)) ∷ (88, Aload 5) ∷ (90, Aload 4) ∷ (92, Invokestatic (method_id 38)) ∷ (95, Return)
-    ∷ (96, Iload 1) ∷ (97, Invokestatic (method_id 14))
-    ∷ (100, Aload 3) ∷ (101, Getfield (record { 0 = 0 })) ∷ (104, Invokestatic (method_id 14))
-    ∷ (107, L2i) ∷ (108, Invokestatic (method_id 14))
-    ∷ (111, Invokestatic (method_id 14))
+    ∷ (49, Aload 4) ∷ (51, Invokevirtual (method_id 35)) ∷ (54, Invokestatic (method_id 19))
+    ∷ (57, Aload 4) ∷ (59, Invokevirtual (method_id 36)) ∷ (62, Ifeq 96)
+    ∷ (65, Aload 4) ∷ (67, Invokestatic (method_id 38))
+    ∷ (70, Aload 4) ∷ (72, Invokestatic (method_id 37))
+    ∷ (75, Iload 1) ∷ (76, Aload 4) ∷ (78, Invokestatic (method_id 37))
+    ∷ (81, Aload 3) ∷ (82, Aload 4) ∷ (84, Invokestatic (method_id 39))
+    ∷ (87, Iconst (pos 1)) ∷ (88, Aload 5) ∷ (90, Aload 4) ∷ (92, Invokestatic (method_id 40)) ∷ (95, Return)
+    ∷ (96, Iload 1) ∷ (97, Invokestatic (method_id 16))
+    ∷ (100, Aload 3) ∷ (101, Getfield (record { 0 = 0 })) ∷ (104, Invokestatic (method_id 16))
+    ∷ (107, L2i) ∷ (108, Invokestatic (method_id 16))
+    ∷ (111, Invokestatic (method_id 16))
     ∷ (114, Return)
-    ∷ (115, Aload 4) ∷ (117, Invokevirtual (method_id 41)) ∷ (120, Checkcast (class_type 1)) ∷ (123, Astore 3)
-    ∷ (124, Aload 4) ∷ (126, Invokevirtual (method_id 39)) ∷ (129, Istore 1)
-    ∷ (130, Aload 4) ∷ (132, Invokevirtual (method_id 39))
-    ∷ (135, Aload 4) ∷ (137, Invokevirtual (method_id 40))
+    ∷ (115, Aload 4) ∷ (117, Invokevirtual (method_id 43)) ∷ (120, Checkcast (class_type 1)) ∷ (123, Astore 3)
+    ∷ (124, Aload 4) ∷ (126, Invokevirtual (method_id 41)) ∷ (129, Istore 1)
+    ∷ (130, Aload 4) ∷ (132, Invokevirtual (method_id 41))
+    ∷ (135, Aload 4) ∷ (137, Invokevirtual (method_id 42))
     ∷ (140, Goto 49)
     ∷ []
 

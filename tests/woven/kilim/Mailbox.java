@@ -6,11 +6,26 @@ public final class Mailbox {
     public Mailbox() {}
 
     /**
+     * A mailbox with a bound.
+     *
+     * @param bound how many messages it holds
+     */
+    public Mailbox(int bound) {}
+
+    /**
      * Puts a message.
      *
      * @param message the message
      */
     public void put(Message message) {}
+
+    /**
+     * Puts a message, or pauses.
+     *
+     * @param message the message
+     * @param fiber the fiber of the task
+     */
+    public void putw(Message message, Fiber fiber) throws Pausable {}
 
     /**
      * Takes a message, or pauses.

@@ -40,7 +40,7 @@ abbrev ExecutesAs : ℕ → Method → Type 0
 ExecutesAs n m = is_task_execute m ≡ true → IsExecute n m
 
 all_execute : (n : ℕ) → AllByRecursion (ExecutesAs n) (built_in_methods_in Plain n)
-all_execute n = ((λ e. absurd (let z : false ≡ true = e in cc)), ((λ e. absurd (let z : false ≡ true = e in cc)), ((λ e. absurd (let z : false ≡ true = e in cc)), ((λ e. absurd (let z : false ≡ true = e in cc)), ((λ e. absurd (let z : false ≡ true = e in cc)), ((λ e. absurd (let z : false ≡ true = e in cc)), ((λ e. record { owner = refl; params = refl; instance = refl; plain = refl; public = refl }), ((λ e. absurd (let z : false ≡ true = e in cc)), ((λ e. absurd (let z : false ≡ true = e in cc)), ((λ e. absurd (let z : false ≡ true = e in cc)), ((λ e. absurd (let z : false ≡ true = e in cc)), ((λ e. absurd (let z : false ≡ true = e in cc)), ((λ e. absurd (let z : false ≡ true = e in cc)), ((λ e. absurd (let z : false ≡ true = e in cc)), ((λ e. absurd (let z : false ≡ true = e in cc)), ((λ e. absurd (let z : false ≡ true = e in cc)), ((λ e. absurd (let z : false ≡ true = e in cc)), ((λ e. absurd (let z : false ≡ true = e in cc)), constructors_too (ExecutesAs n) n exception_numbers [] (λ c e. absurd (let z : false ≡ true = e in cc)) tt))))))))))))))))))
+all_execute n = ((λ e. absurd (let z : false ≡ true = e in cc)), ((λ e. absurd (let z : false ≡ true = e in cc)), ((λ e. absurd (let z : false ≡ true = e in cc)), ((λ e. absurd (let z : false ≡ true = e in cc)), ((λ e. absurd (let z : false ≡ true = e in cc)), ((λ e. absurd (let z : false ≡ true = e in cc)), ((λ e. record { owner = refl; params = refl; instance = refl; plain = refl; public = refl }), ((λ e. absurd (let z : false ≡ true = e in cc)), ((λ e. absurd (let z : false ≡ true = e in cc)), ((λ e. absurd (let z : false ≡ true = e in cc)), ((λ e. absurd (let z : false ≡ true = e in cc)), ((λ e. absurd (let z : false ≡ true = e in cc)), ((λ e. absurd (let z : false ≡ true = e in cc)), ((λ e. absurd (let z : false ≡ true = e in cc)), ((λ e. absurd (let z : false ≡ true = e in cc)), ((λ e. absurd (let z : false ≡ true = e in cc)), ((λ e. absurd (let z : false ≡ true = e in cc)), ((λ e. absurd (let z : false ≡ true = e in cc)), ((λ e. absurd (let z : false ≡ true = e in cc)), ((λ e. absurd (let z : false ≡ true = e in cc)), constructors_too (ExecutesAs n) n exception_numbers [] (λ c e. absurd (let z : false ≡ true = e in cc)) tt))))))))))))))))))))
 
 record IsFound (test : Method → Bool) (ms : List Method) (m : Method) : Type 0 where
   place : ℕ

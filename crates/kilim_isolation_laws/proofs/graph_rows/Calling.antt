@@ -39,7 +39,7 @@ use Rattle.kilim_isolation_graph.specs.Entry.{parameters_of, declared_parameters
 use Rattle.kilim_isolation_laws.proofs.graph_rows.Passing.{IsAfter, Weaker, after_is, behind, called, passed_at, quality_at}
 use Rattle.kilim_isolation_rules.specs.Marks.{names_no_root, names_safe}
 use Rattle.kilim_isolation_graph.specs.declared.entry.Parameter.{Parameter}
-use Rattle.kilim_isolation_laws.specs.graph_rows.Holds.{Sort, Anything, Wide, Word, Own, Tree, sort, object_sort, type_sort, sort_of_vtype, Fits, unnamed, named_sort, refers, SlotFits, AreSlots, SlotsFit, named_by, value_at, Waiting, waiting_named, WaitFits, AllWait, Holds, Stands, trees}
+use Rattle.kilim_isolation_laws.specs.graph_rows.Holds.{Sort, Anything, Wide, Word, Own, Tree, sort, type_sort, sort_of_vtype, Fits, unnamed, named_sort, refers, SlotFits, AreSlots, SlotsFit, named_by, value_at, Waiting, waiting_named, WaitFits, Holds, Stands, trees}
 use Rattle.kilim_isolation_laws.specs.forest.Laws.{IsPlace}
 use Rattle.kilim_isolation_laws.specs.graph_rows.Outcome.{ArgsFit, CallHolds, NativeHolds}
 use Rattle.kilim_isolation_laws.proofs.graph_rows.Nodes.{live_within, listed_length, listed_live, listed_each, HasSameLive, same_view, same_frames, same_tidy}

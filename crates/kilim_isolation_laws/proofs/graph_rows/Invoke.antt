@@ -38,7 +38,7 @@ use Rattle.kilim_program.specs.Kinds.{is_tree_kind, kind_of}
 use Rattle.kilim_program.specs.declared.ty.Kind.TheVariants as kind
 use Rattle.kilim_program.specs.declared.value.Value.TheVariants.{Int}
 use Rattle.kilim_type_spec.specs.Typed.{Among, edges}
-use Rattle.kilim_type_spec.specs.Step.{Types, peek, assignable, Operand, Is, meets, all_meet, arguments, class_vtype, by_row, row, type_step, virtual_row, virtual_rules, result_types, missing}
+use Rattle.kilim_type_spec.specs.Step.{Types, peek, assignable, Operand, Is, meets, all_meet, arguments, class_vtype, result_types}
 use Rattle.std.proofs.Common.{◌≡◌, ℕ, ℤ, zero, suc, ◌+◌, Bool, true, false, true≢false, not, ◌&&◌, cond, List, [], ◌∷◌, ◌++◌, map, length, reverse, Option, Some, None, refl, sym, ap, subst, ◌∙◌, inl, inr, arith}
 use Rattle.std.proofs.lemmas.List.{length-reverse}
 use Rattle.std.specs.List.{list_any}

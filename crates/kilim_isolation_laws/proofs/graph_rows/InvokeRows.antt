@@ -22,17 +22,17 @@ use Rattle.kilim_isolation_laws.proofs.forest.Store.{both_ways}
 use Rattle.kilim_isolation_laws.specs.forest.Canonical.{node_at}
 use Rattle.kilim_isolation_laws.specs.forest.Relation.{is_gone, Named}
 use Rattle.kilim_isolation_laws.proofs.graph_rows.Calling.{ArgsMeet, PassedLive, after_within, call_holds, caller_holds, caller_slots}
-use Rattle.kilim_isolation_laws.proofs.graph_rows.Invoke.{all_fit, args_are, begun_live, begun_meet, call_left, instance_left, length_more, receiver_class, receiver_on_stack, rest_on_stack, text_left, cuttable, free, graph, shared}
+use Rattle.kilim_isolation_laws.proofs.graph_rows.Invoke.{begun_live, begun_meet, call_left, instance_left, receiver_class, receiver_on_stack, rest_on_stack, text_left, cuttable, free, graph, shared}
 use Rattle.kilim_isolation_laws.proofs.graph_rows.Invoking.{values_h, params_fit, arguments_are}
 use Rattle.kilim_isolation_laws.proofs.graph_rows.Passed.{takes_passed, rule_passed, ok_is, further_passed}
 use Rattle.kilim_isolation_laws.proofs.graph_rows.Plain.{IsStep, E, dropped}
 use Rattle.kilim_isolation_laws.proofs.graph_rows.Reading.{slot_lives}
-use Rattle.kilim_isolation_laws.proofs.graph_rows.Settle.{not_true, or_left, or_right, and_left, and_right, flow_slot}
+use Rattle.kilim_isolation_laws.proofs.graph_rows.Settle.{not_true, and_left, and_right}
 use Rattle.kilim_isolation_laws.proofs.graph_rows.Words.{class_of_h, cond_h, some_h, value_h, on_receiver_h, receiver_h, when_h}
 use Rattle.kilim_isolation_laws.specs.graph_rows.Facts.{AreOf, ProgramKeeps, class_of}
 use Rattle.kilim_isolation_laws.specs.graph_rows.Holds.{SlotsFit, made_sort, value_at, sort, object_sort, SlotFits, AreSlots, named_by, Waiting, Holds}
 use Rattle.kilim_isolation_laws.specs.graph_rows.Outcome.{ArgsFit, Left, CallHolds, NativeHolds, NoneFree}
-use Rattle.kilim_isolation_rules.specs.Calls.{quality_in, parameters, receiver, all_passed, calls, calls_with, after_call, takes_from, given_result, is_free, is_cuttable, shares, any_two, call_raises, handler_graph}
+use Rattle.kilim_isolation_rules.specs.Calls.{parameters, receiver, all_passed, calls, calls_with, after_call, takes_from, given_result, call_raises, handler_graph}
 use Rattle.kilim_isolation_rules.specs.Marks.{mixes, names_gone}
 use Rattle.kilim_isolation_rules.specs.Rules.{deed, raised_deed}
 use Rattle.kilim_isolation_rules.specs.declared.deed.Passed.{Passed}
@@ -44,7 +44,7 @@ use Rattle.kilim_isolation_graph.specs.Entry.{parameters_of, declared_parameters
 use Rattle.kilim_isolation_graph.specs.Graphs.{slot, popped}
 use Rattle.kilim_isolation_graph.specs.declared.graph.Graph.{Graph}
 use Rattle.kilim_type_spec.specs.Step as type
-use Rattle.kilim_type_spec.specs.Step.{Types, peek, assignable, Operand, Is, meets, all_meet, arguments, class_vtype, by_row, row, type_step, virtual_row, virtual_rules, result_types, missing, is_class, made_at, one_replaced, replaced, special_fits, special_rules, special_row, superclass_at, is_same}
+use Rattle.kilim_type_spec.specs.Step.{Types, peek, Operand, Is, all_meet, arguments, class_vtype, by_row, row, virtual_row, virtual_rules, result_types, is_class, made_at, one_replaced, replaced, special_fits, special_rules, special_row, superclass_at, is_same}
 use Rattle.kilim_type_spec.specs.Typed.{Among, edges}
 use Rattle.std.proofs.Common.{◌==◌, ◌≡◌, ℕ, ℤ, pos, negsuc, zero, suc, ◌+◌, Bool, true, false, true≢false, not, ◌&&◌, ◌||◌, cond, List, [], ◌∷◌, ◌++◌, length, reverse, Option, Some, None, Ok, refl, sym, ap, subst, ◌∙◌, ◌⊎◌, inl, inr, arith}
 use Rattle.std.proofs.lemmas.List.{length-reverse}

@@ -4,7 +4,7 @@ use Rattle.kilim_program.specs.declared.ty.Qualifier.TheVariants as qualifier
 use Rattle.kilim_program.specs.Program.{Program}
 use Rattle.kilim_isolation_laws.specs.forest.Heap.{Heap, IsForest}
 use Rattle.kilim_isolation_laws.specs.forest.Relation.{Gone, is_gone, Label, Node, Named, Names, Owns, Frames}
-use Rattle.kilim_isolation_laws.specs.forest.Steps.{IsTidy, IsCall, Qualifier, Argument, Free, Cuttable, cut_node, gone_node, entry_node, after_argument, after_arguments, more_arguments, number_or, is_owned}
+use Rattle.kilim_isolation_laws.specs.forest.Steps.{IsTidy, IsCall, Qualifier, Argument, Free, Cuttable, entry_node, after_argument, after_arguments, more_arguments, number_or, is_owned}
 use Rattle.kilim_isolation_laws.specs.forest.Canonical.{absent, node_at}
 use Rattle.kilim_isolation_laws.proofs.forest.Arguments.{AllLeft_behind, IsLeft_behind, arguments_behind, less_itself}
 use Rattle.kilim_isolation_laws.proofs.forest.Called.{of_named, owned, owned_of, root_free, tail_behind, view}

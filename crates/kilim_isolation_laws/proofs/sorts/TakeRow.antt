@@ -42,10 +42,10 @@ abbrev TakesSo : ℕ → Method → Type 0
 TakesSo n m = OfStatic n m.is_static m.params m.qualifiers
 
 so_plain : (n : ℕ) → AllByRecursion (TakesSo n) (built_in_methods_in Plain n)
-so_plain n = (tt, (tt, (tt, (tt, (tt, (tt, (tt, (tt, (tt, (tt, (tt, (tt, (tt, (tt, (tt, (tt, (tt, ((refl, refl), constructors_too (TakesSo n) n exception_numbers [] (λ c. tt) tt))))))))))))))))))
+so_plain n = (tt, (tt, (tt, (tt, (tt, (tt, (tt, (tt, (tt, (tt, (tt, (tt, (tt, (tt, (tt, (tt, (tt, (tt, (tt, ((refl, refl), constructors_too (TakesSo n) n exception_numbers [] (λ c. tt) tt))))))))))))))))))))
 
 so_woven : (n : ℕ) → AllByRecursion (TakesSo n) (built_in_methods_in Woven n)
-so_woven n = (tt, (tt, (tt, (tt, (tt, (tt, (tt, (tt, (tt, (tt, (tt, (tt, (tt, (tt, (tt, (tt, (tt, ((refl, refl), constructors_too (TakesSo n) n exception_numbers (fiber_methods Woven n) (λ c. tt) (tt, (tt, (tt, (tt, (tt, (tt, (tt, (tt, (tt, (tt, (tt, tt)))))))))))))))))))))))))))))
+so_woven n = (tt, (tt, (tt, (tt, (tt, (tt, (tt, (tt, (tt, (tt, (tt, (tt, (tt, (tt, (tt, (tt, (tt, (tt, (tt, ((refl, refl), constructors_too (TakesSo n) n exception_numbers (fiber_methods Woven n) (λ c. tt) (tt, (tt, (tt, (tt, (tt, (tt, (tt, (tt, (tt, (tt, (tt, tt)))))))))))))))))))))))))))))))
 
 so : (form : Form) (n : ℕ) → AllByRecursion (TakesSo n) (built_in_methods_in form n)
 so Plain n = so_plain n

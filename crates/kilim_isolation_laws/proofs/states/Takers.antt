@@ -59,7 +59,7 @@ module _ (p : Program) (n : ℕ) where
 module _ (p : Program) (n : ℕ) (object : class_name p (class_id n) ≡ codes "java/lang/Object") (string : class_name p (class_id (n + 1)) ≡ codes "java/lang/String") (task : class_name p (class_id (n + 4)) ≡ codes "kilim/Task")
     (mailbox : class_name p (class_id (n + 5)) ≡ codes "kilim/Mailbox") (sys : class_name p (class_id (n + 6)) ≡ codes "kilim/Sys") where
   all_take : AllByRecursion (TakesAs p n) (built_in_methods_in Plain n)
-  all_take = (as_none p n _ (codes "java/lang/Object") object refl, (as_none p n _ (codes "java/lang/String") string refl, (as_none p n _ (codes "java/lang/String") string refl, (as_none p n _ (codes "java/lang/String") string refl, (as_none p n _ (codes "kilim/Task") task refl, (as_some p n _ (codes "kilim/Task") native.Start task refl (record { instance = refl; owner = refl; receiver = refl; params = refl; qualifiers = refl }), (as_some p n _ (codes "kilim/Task") native.Execute task refl tt, (as_none p n _ (codes "kilim/Mailbox") mailbox refl, (as_some p n _ (codes "kilim/Mailbox") native.Put mailbox refl (record { instance = refl; owner = refl; params = refl; qualifiers = refl }), (as_some p n _ (codes "kilim/Mailbox") native.Get mailbox refl tt, (as_some p n _ (codes "kilim/Mailbox") native.Getnb mailbox refl tt, (as_some p n _ (codes "kilim/Sys") native.Print sys refl tt, (as_some p n _ (codes "kilim/Sys") native.Print sys refl tt, (as_some p n _ (codes "kilim/Sys") native.Print sys refl tt, (as_some p n _ (codes "kilim/Sys") native.Yield sys refl tt, (as_some p n _ (codes "kilim/Sys") native.ArgCount sys refl tt, (as_some p n _ (codes "kilim/Sys") native.Arg sys refl tt, (as_none p n _ (codes "kilim/Sys") sys refl, constructors_too (TakesAs p n) n exception_numbers [] (λ c. as_none p n (built_in_constructor c) (class_name p c) refl refl) tt))))))))))))))))))
+  all_take = (as_none p n _ (codes "java/lang/Object") object refl, (as_none p n _ (codes "java/lang/String") string refl, (as_none p n _ (codes "java/lang/String") string refl, (as_none p n _ (codes "java/lang/String") string refl, (as_none p n _ (codes "kilim/Task") task refl, (as_some p n _ (codes "kilim/Task") native.Start task refl (record { instance = refl; owner = refl; receiver = refl; params = refl; qualifiers = refl }), (as_some p n _ (codes "kilim/Task") native.Execute task refl tt, (as_none p n _ (codes "kilim/Mailbox") mailbox refl, (as_some p n _ (codes "kilim/Mailbox") native.Bound mailbox refl tt, (as_some p n _ (codes "kilim/Mailbox") native.Put mailbox refl (record { instance = refl; owner = refl; params = refl; qualifiers = refl }), (as_some p n _ (codes "kilim/Mailbox") native.PutWait mailbox refl (record { instance = refl; owner = refl; params = refl; qualifiers = refl }), (as_some p n _ (codes "kilim/Mailbox") native.Get mailbox refl tt, (as_some p n _ (codes "kilim/Mailbox") native.Getnb mailbox refl tt, (as_some p n _ (codes "kilim/Sys") native.Print sys refl tt, (as_some p n _ (codes "kilim/Sys") native.Print sys refl tt, (as_some p n _ (codes "kilim/Sys") native.Print sys refl tt, (as_some p n _ (codes "kilim/Sys") native.Yield sys refl tt, (as_some p n _ (codes "kilim/Sys") native.ArgCount sys refl tt, (as_some p n _ (codes "kilim/Sys") native.Arg sys refl tt, (as_none p n _ (codes "kilim/Sys") sys refl, constructors_too (TakesAs p n) n exception_numbers [] (λ c. as_none p n (built_in_constructor c) (class_name p c) refl refl) tt))))))))))))))))))))
 
 string_at : (a b : ℕ) → NamedAt Plain a b 1 (codes "java/lang/String")
 string_at a b = record { class = _; at = refl; is = refl }

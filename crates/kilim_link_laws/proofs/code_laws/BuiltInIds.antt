@@ -30,8 +30,8 @@ class_count Plain = 18
 class_count Woven = 19
 
 abbrev pub method_count : Form → ℕ
-method_count Plain = 29
-method_count Woven = 40
+method_count Plain = 31
+method_count Woven = 42
 
 pub class_total : (form : Form) (n m : ℕ) → length (built_in_classes_in form n m) ≡ class_count form
 class_total Plain n m = refl
@@ -92,45 +92,45 @@ module _ (p : Program) where
   built_in_classes_there Plain n m room more =
       let up = object_there Plain n room in
       let other = class_at_place n (class_count Plain) room in
-      let one = one_class m 29 more in
+      let one = one_class m 31 more in
       and_from _ _ (one None (0 ∷ []) refl refl)
       (and_from _ _ (one (Some (class_id n)) (1 ∷ 2 ∷ 3 ∷ []) up refl)
       (and_from _ _ (one (Some (class_id n)) [] up refl)
       (and_from _ _ (one (Some (class_id n)) [] up refl)
       (and_from _ _ (one (Some (class_id n)) (4 ∷ 5 ∷ 6 ∷ []) up refl)
-      (and_from _ _ (one (Some (class_id n)) (7 ∷ 8 ∷ 9 ∷ 10 ∷ []) up refl)
-      (and_from _ _ (one (Some (class_id n)) (11 ∷ 12 ∷ 13 ∷ 14 ∷ 15 ∷ 16 ∷ 17 ∷ []) up refl)
-      (and_from _ _ (one (Some (class_id n)) (18 ∷ []) up refl)
-      (and_from _ _ (one (Some (class_id (n + 7))) (19 ∷ []) (other 7 (omega arith)) refl)
-      (and_from _ _ (one (Some (class_id (n + 8))) (20 ∷ []) (other 8 (omega arith)) refl)
-      (and_from _ _ (one (Some (class_id (n + 9))) (21 ∷ []) (other 9 (omega arith)) refl)
-      (and_from _ _ (one (Some (class_id (n + 9))) (22 ∷ []) (other 9 (omega arith)) refl)
+      (and_from _ _ (one (Some (class_id n)) (7 ∷ 8 ∷ 9 ∷ 10 ∷ 11 ∷ 12 ∷ []) up refl)
+      (and_from _ _ (one (Some (class_id n)) (13 ∷ 14 ∷ 15 ∷ 16 ∷ 17 ∷ 18 ∷ 19 ∷ []) up refl)
+      (and_from _ _ (one (Some (class_id n)) (20 ∷ []) up refl)
+      (and_from _ _ (one (Some (class_id (n + 7))) (21 ∷ []) (other 7 (omega arith)) refl)
+      (and_from _ _ (one (Some (class_id (n + 8))) (22 ∷ []) (other 8 (omega arith)) refl)
       (and_from _ _ (one (Some (class_id (n + 9))) (23 ∷ []) (other 9 (omega arith)) refl)
       (and_from _ _ (one (Some (class_id (n + 9))) (24 ∷ []) (other 9 (omega arith)) refl)
       (and_from _ _ (one (Some (class_id (n + 9))) (25 ∷ []) (other 9 (omega arith)) refl)
       (and_from _ _ (one (Some (class_id (n + 9))) (26 ∷ []) (other 9 (omega arith)) refl)
-      (and_from _ _ (one (Some (class_id (n + 15))) (27 ∷ []) (other 15 (omega arith)) refl)
-      (and_from _ _ (one (Some (class_id (n + 15))) (28 ∷ []) (other 15 (omega arith)) refl) refl)))))))))))))))))
+      (and_from _ _ (one (Some (class_id (n + 9))) (27 ∷ []) (other 9 (omega arith)) refl)
+      (and_from _ _ (one (Some (class_id (n + 9))) (28 ∷ []) (other 9 (omega arith)) refl)
+      (and_from _ _ (one (Some (class_id (n + 15))) (29 ∷ []) (other 15 (omega arith)) refl)
+      (and_from _ _ (one (Some (class_id (n + 15))) (30 ∷ []) (other 15 (omega arith)) refl) refl)))))))))))))))))
   built_in_classes_there Woven n m room more =
       let up = object_there Woven n room in
       let other = class_at_place n (class_count Woven) room in
-      let one = one_class m 40 more in
+      let one = one_class m 42 more in
       and_from _ _ (one None (0 ∷ []) refl refl)
       (and_from _ _ (one (Some (class_id n)) (1 ∷ 2 ∷ 3 ∷ []) up refl)
       (and_from _ _ (one (Some (class_id n)) [] up refl)
       (and_from _ _ (one (Some (class_id n)) [] up refl)
       (and_from _ _ (one (Some (class_id n)) (4 ∷ 5 ∷ 6 ∷ []) up refl)
-      (and_from _ _ (one (Some (class_id n)) (7 ∷ 8 ∷ 9 ∷ 10 ∷ []) up refl)
-      (and_from _ _ (one (Some (class_id n)) (11 ∷ 12 ∷ 13 ∷ 14 ∷ 15 ∷ 16 ∷ 17 ∷ []) up refl)
-      (and_from _ _ (one (Some (class_id n)) (18 ∷ []) up refl)
-      (and_from _ _ (one (Some (class_id (n + 7))) (19 ∷ []) (other 7 (omega arith)) refl)
-      (and_from _ _ (one (Some (class_id (n + 8))) (20 ∷ []) (other 8 (omega arith)) refl)
-      (and_from _ _ (one (Some (class_id (n + 9))) (21 ∷ []) (other 9 (omega arith)) refl)
-      (and_from _ _ (one (Some (class_id (n + 9))) (22 ∷ []) (other 9 (omega arith)) refl)
+      (and_from _ _ (one (Some (class_id n)) (7 ∷ 8 ∷ 9 ∷ 10 ∷ 11 ∷ 12 ∷ []) up refl)
+      (and_from _ _ (one (Some (class_id n)) (13 ∷ 14 ∷ 15 ∷ 16 ∷ 17 ∷ 18 ∷ 19 ∷ []) up refl)
+      (and_from _ _ (one (Some (class_id n)) (20 ∷ []) up refl)
+      (and_from _ _ (one (Some (class_id (n + 7))) (21 ∷ []) (other 7 (omega arith)) refl)
+      (and_from _ _ (one (Some (class_id (n + 8))) (22 ∷ []) (other 8 (omega arith)) refl)
       (and_from _ _ (one (Some (class_id (n + 9))) (23 ∷ []) (other 9 (omega arith)) refl)
       (and_from _ _ (one (Some (class_id (n + 9))) (24 ∷ []) (other 9 (omega arith)) refl)
       (and_from _ _ (one (Some (class_id (n + 9))) (25 ∷ []) (other 9 (omega arith)) refl)
       (and_from _ _ (one (Some (class_id (n + 9))) (26 ∷ []) (other 9 (omega arith)) refl)
-      (and_from _ _ (one (Some (class_id (n + 15))) (27 ∷ []) (other 15 (omega arith)) refl)
-      (and_from _ _ (one (Some (class_id (n + 15))) (28 ∷ []) (other 15 (omega arith)) refl)
-      (and_from _ _ (one (Some (class_id n)) (29 ∷ 30 ∷ 31 ∷ 32 ∷ 33 ∷ 34 ∷ 35 ∷ 36 ∷ 37 ∷ 38 ∷ 39 ∷ []) up refl) refl))))))))))))))))))
+      (and_from _ _ (one (Some (class_id (n + 9))) (27 ∷ []) (other 9 (omega arith)) refl)
+      (and_from _ _ (one (Some (class_id (n + 9))) (28 ∷ []) (other 9 (omega arith)) refl)
+      (and_from _ _ (one (Some (class_id (n + 15))) (29 ∷ []) (other 15 (omega arith)) refl)
+      (and_from _ _ (one (Some (class_id (n + 15))) (30 ∷ []) (other 15 (omega arith)) refl)
+      (and_from _ _ (one (Some (class_id n)) (31 ∷ 32 ∷ 33 ∷ 34 ∷ 35 ∷ 36 ∷ 37 ∷ 38 ∷ 39 ∷ 40 ∷ 41 ∷ []) up refl) refl))))))))))))))))))

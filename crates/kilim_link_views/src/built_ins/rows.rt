@@ -100,17 +100,17 @@ pub const CLASSES: &[ClassRow] = &[
     ClassRow {
         name: b"kilim/Mailbox",
         message: false,
-        methods: &[7, 8, 9, 10],
+        methods: &[7, 8, 9, 10, 11, 12],
     },
     ClassRow {
         name: b"kilim/Sys",
         message: false,
-        methods: &[11, 12, 13, 14, 15, 16, 17],
+        methods: &[13, 14, 15, 16, 17, 18, 19],
     },
     ClassRow {
         name: b"java/lang/Throwable",
         message: false,
-        methods: &[18],
+        methods: &[20],
     },
 ];
 
@@ -119,52 +119,52 @@ pub const EXCEPTION_CLASSES: &[ExceptionRow] = &[
     ExceptionRow {
         name: b"java/lang/Exception",
         superclass: THROWABLE,
-        methods: &[19],
+        methods: &[21],
     },
     ExceptionRow {
         name: b"java/lang/RuntimeException",
         superclass: EXCEPTION,
-        methods: &[20],
+        methods: &[22],
     },
     ExceptionRow {
         name: b"java/lang/ArithmeticException",
         superclass: RUNTIME_EXCEPTION,
-        methods: &[21],
+        methods: &[23],
     },
     ExceptionRow {
         name: b"java/lang/NullPointerException",
         superclass: RUNTIME_EXCEPTION,
-        methods: &[22],
+        methods: &[24],
     },
     ExceptionRow {
         name: b"java/lang/NegativeArraySizeException",
         superclass: RUNTIME_EXCEPTION,
-        methods: &[23],
+        methods: &[25],
     },
     ExceptionRow {
         name: b"java/lang/ClassCastException",
         superclass: RUNTIME_EXCEPTION,
-        methods: &[24],
+        methods: &[26],
     },
     ExceptionRow {
         name: b"java/lang/ArrayStoreException",
         superclass: RUNTIME_EXCEPTION,
-        methods: &[25],
+        methods: &[27],
     },
     ExceptionRow {
         name: b"java/lang/IndexOutOfBoundsException",
         superclass: RUNTIME_EXCEPTION,
-        methods: &[26],
+        methods: &[28],
     },
     ExceptionRow {
         name: b"java/lang/ArrayIndexOutOfBoundsException",
         superclass: INDEX_EXCEPTION,
-        methods: &[27],
+        methods: &[29],
     },
     ExceptionRow {
         name: b"java/lang/StringIndexOutOfBoundsException",
         superclass: INDEX_EXCEPTION,
-        methods: &[28],
+        methods: &[30],
     },
 ];
 
@@ -172,7 +172,7 @@ pub const EXCEPTION_CLASSES: &[ExceptionRow] = &[
 pub const FIBER_CLASSES: &[ClassRow] = &[ClassRow {
     name: b"kilim/Fiber",
     message: false,
-    methods: &[29, 30, 31, 32, 33, 34, 35, 36, 37, 38, 39],
+    methods: &[31, 32, 33, 34, 35, 36, 37, 38, 39, 40, 41],
 }];
 
 /// The classes of exceptions, each of which has a constructor, in their order.
@@ -261,12 +261,32 @@ pub const METHODS: &[MethodRow] = &[
         qualifiers: &[],
     },
     MethodRow {
+        name: b"<init>",
+        owner: MAILBOX,
+        params: &[Kind::Int],
+        gives: None,
+        is_static: false,
+        pausable: false,
+        receiver: Qualifier::Cuttable,
+        qualifiers: &[Qualifier::Safe],
+    },
+    MethodRow {
         name: b"put",
         owner: MAILBOX,
         params: &[Kind::Object(MESSAGE)],
         gives: None,
         is_static: false,
         pausable: false,
+        receiver: Qualifier::Safe,
+        qualifiers: &[Qualifier::Free],
+    },
+    MethodRow {
+        name: b"putw",
+        owner: MAILBOX,
+        params: &[Kind::Object(MESSAGE)],
+        gives: None,
+        is_static: false,
+        pausable: true,
         receiver: Qualifier::Safe,
         qualifiers: &[Qualifier::Free],
     },

@@ -45,7 +45,7 @@ a_constructor_code = (0, Aload 0) ∷ (1, Invokespecial (method_id 6)) ∷ (4, R
 
 -- `bipush 7`, `invokestatic kilim/Sys.print(I)V`, `return`
 abbrev pub a_execute_code : List (ℕ × Instr)
-a_execute_code = (0, Bipush (pos 7)) ∷ (2, Invokestatic (method_id 13)) ∷ (5, Return) ∷ []
+a_execute_code = (0, Bipush (pos 7)) ∷ (2, Invokestatic (method_id 15)) ∷ (5, Return) ∷ []
 
 abbrev pub a_constructor : Method
 a_constructor = record {

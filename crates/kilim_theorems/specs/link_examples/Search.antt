@@ -121,7 +121,7 @@ constructor_of_sys = code_of_last 0 (calls p_name object 183 (codes "kilim/Sys")
 
 -- a static method, by an instruction that calls others: the verifier refuses that
 abbrev pub static_is_found : Type 0
-static_is_found = code_of_last 0 (calls p_name object 182 (codes "kilim/Sys") (codes "yield") nothing ∷ []) ≡ Some (one_instr (Invokevirtual (method_id 15)))
+static_is_found = code_of_last 0 (calls p_name object 182 (codes "kilim/Sys") (codes "yield") nothing ∷ []) ≡ Some (one_instr (Invokevirtual (method_id 17)))
 
 -- by name and by descriptor
 abbrev pub other_descriptor : Type 0
@@ -318,7 +318,7 @@ plain_members =
     ∷ (codes "kilim/Message", [])
     ∷ (codes "kilim/Pausable", [])
     ∷ (task, codes "<init>()V" ∷ codes "start()V" ∷ codes "execute()V" ∷ [])
-    ∷ (codes "kilim/Mailbox", codes "<init>()V" ∷ codes "put(Lkilim/Message;)V" ∷ codes "get()Lkilim/Message;" ∷ codes "getnb()Lkilim/Message;" ∷ [])
+    ∷ (codes "kilim/Mailbox", codes "<init>()V" ∷ codes "<init>(I)V" ∷ codes "put(Lkilim/Message;)V" ∷ codes "putw(Lkilim/Message;)V" ∷ codes "get()Lkilim/Message;" ∷ codes "getnb()Lkilim/Message;" ∷ [])
     ∷ (codes "kilim/Sys", codes "print(I)V" ∷ codes "print(J)V" ∷ codes "print(Ljava/lang/String;)V" ∷ codes "yield()V" ∷ codes "argCount()I" ∷ codes "arg(I)I" ∷ codes "take([Lkilim/Message;I)Lkilim/Message;" ∷ [])
     ∷ with_constructor (codes "java/lang/Throwable")
     ∷ with_constructor (codes "java/lang/Exception")
@@ -341,7 +341,7 @@ woven_members =
     ∷ (codes "kilim/Message", [])
     ∷ (codes "kilim/Pausable", [])
     ∷ (task, codes "<init>()V" ∷ codes "start()V" ∷ codes "execute(Lkilim/Fiber;)V" ∷ [])
-    ∷ (codes "kilim/Mailbox", codes "<init>()V" ∷ codes "put(Lkilim/Message;)V" ∷ codes "get(Lkilim/Fiber;)Lkilim/Message;" ∷ codes "getnb()Lkilim/Message;" ∷ [])
+    ∷ (codes "kilim/Mailbox", codes "<init>()V" ∷ codes "<init>(I)V" ∷ codes "put(Lkilim/Message;)V" ∷ codes "putw(Lkilim/Message;Lkilim/Fiber;)V" ∷ codes "get(Lkilim/Fiber;)Lkilim/Message;" ∷ codes "getnb()Lkilim/Message;" ∷ [])
     ∷ (codes "kilim/Sys", codes "print(I)V" ∷ codes "print(J)V" ∷ codes "print(Ljava/lang/String;)V" ∷ codes "yield(Lkilim/Fiber;)V" ∷ codes "argCount()I" ∷ codes "arg(I)I" ∷ codes "take([Lkilim/Message;I)Lkilim/Message;" ∷ [])
     ∷ with_constructor (codes "java/lang/Throwable")
     ∷ with_constructor (codes "java/lang/Exception")

@@ -22,7 +22,7 @@ use Rattle.kilim_type_sound.specs.Sound.{native_types}
 use Rattle.kilim_run_state.specs.declared.value.Token.{Token}
 use Rattle.kilim_run_state.specs.declared.value.Token.TheVariants as token
 use Rattle.kilim_run_state.specs.Machine.{Objects}
-use Rattle.kilim_run_machine.specs.Natives.{Native, native_method, native_named, natives, native_in}
+use Rattle.kilim_run_machine.specs.Natives.{Native, native_method, native_in}
 use Rattle.kilim_run_machine.specs.Natives as native
 use Rattle.kilim_run_model.specs.Lone.{printed}
 use Rattle.kilim_fiber_laws.proofs.courses.answers.Asked.{AsksWell, HasFirst}
@@ -97,6 +97,21 @@ module _ (p : Program) (keeps : Keeps p) (form : p.form ≡ Plain) (of : Classes
       let r = box_is p keeps form m of h heap o.0 (subst (λ (x : List Value). HasFirst x) o.2 (a.first instance)) (subst (λ (x : List Value). AreThere h x) o.2 a.there).0 o.3 in
       (native.Put, known m name native.Put named is, subst (λ (x : List Value). TakesSuch native.Put x) (sym (o.2 ∙ ap (λ (v : Value). v ∷ o.1 ∷ []) r.1)) (message_is p keeps form m of o.1 o.4))
 
+  puts_or_waits : (m : Method) → m.is_static ≡ false → (name : List ℕ) → class_name p m.owner ≡ name → by_name m name ≡ Some native.PutWait → native_types m ≡ vtype.Object (class_type (first p keeps form + 5)) ∷ vtype.Object (class_type (first p keeps form + 2)) ∷ [] → AnswersAs p of h m
+  unfolding AnswersAs
+  puts_or_waits m instance name named is types args a e =
+      let o = two p m of (vtype.Object (class_type (first p keeps form + 5))) (vtype.Object (class_type (first p keeps form + 2))) args (subst (λ (ts : List VType). have_types p m of ts args ≡ true) types e) in
+      let r = box_is p keeps form m of h heap o.0 (subst (λ (x : List Value). HasFirst x) o.2 (a.first instance)) (subst (λ (x : List Value). AreThere h x) o.2 a.there).0 o.3 in
+      (native.PutWait, known m name native.PutWait named is, subst (λ (x : List Value). TakesSuch native.PutWait x) (sym (o.2 ∙ ap (λ (v : Value). v ∷ o.1 ∷ []) r.1)) (message_is p keeps form m of o.1 o.4))
+
+  bounds : (m : Method) → m.is_static ≡ false → (name : List ℕ) → class_name p m.owner ≡ name → by_name m name ≡ Some native.Bound → native_types m ≡ vtype.Object (class_type (first p keeps form + 5)) ∷ vtype.Int ∷ [] → AnswersAs p of h m
+  unfolding AnswersAs
+  bounds m instance name named is types args a e =
+      let o = two p m of (vtype.Object (class_type (first p keeps form + 5))) vtype.Int args (subst (λ (ts : List VType). have_types p m of ts args ≡ true) types e) in
+      let r = box_is p keeps form m of h heap o.0 (subst (λ (x : List Value). HasFirst x) o.2 (a.first instance)) (subst (λ (x : List Value). AreThere h x) o.2 a.there).0 o.3 in
+      let i = int_is p m of o.1 o.4 in
+      (native.Bound, known m name native.Bound named is, subst (λ (x : List Value). TakesSuch native.Bound x) (sym (o.2 ∙ (ap (λ (v : Value). v ∷ o.1 ∷ []) r.1 ∙ ap (λ (v : Value). Box r.0 ∷ v ∷ []) i.1))) tt)
+
   prints : (m : Method) (t : VType) → (name : List ℕ) → class_name p m.owner ≡ name → by_name m name ≡ Some native.Print → native_types m ≡ t ∷ [] → ((n : Method) (v : Value) → AreThere h (v ∷ []) → has_type p n of t v ≡ true → (x : Token) × (printed v ≡ Some x)) → AnswersAs p of h m
   unfolding AnswersAs
   prints m t name named is types shown args a e =
@@ -131,7 +146,7 @@ module _ (p : Program) (keeps : Keeps p) (form : p.form ≡ Plain) (of : Classes
   text_named = ap (λ (x : List ℕ). bytes_eq x (codes "java/lang/String")) (string_name p keeps form)
 
   all_answer : AllByRecursion (AnswersAs p of h) (built_in_methods_in Plain (length keeps.built_in.own_classes))
-  all_answer = (plainly _ refl, (of_text _ text_named, (of_text _ text_named, (of_text _ text_named, (plainly _ refl, (of_task _ native.Start refl (λ n. tt) (codes "kilim/Task") (task_name p keeps form) refl refl, (of_task _ native.Execute refl (λ n. tt) (codes "kilim/Task") (task_name p keeps form) refl refl, (plainly _ refl, (puts _ refl (codes "kilim/Mailbox") (mailbox_name p keeps form) refl refl, (of_box _ native.Get refl (λ b. tt) (codes "kilim/Mailbox") (mailbox_name p keeps form) refl refl, (of_box _ native.Getnb refl (λ b. tt) (codes "kilim/Mailbox") (mailbox_name p keeps form) refl refl, (prints _ vtype.Int (codes "kilim/Sys") (sys_name p keeps form) refl refl (λ m v t e. let r = int_is p m of v e in (token.Int r.0, ap printed r.1)), (prints _ vtype.Long (codes "kilim/Sys") (sys_name p keeps form) refl refl (λ m v t e. let r = long_is p m of v e in (token.Long r.0, ap printed r.1)), (prints _ (vtype.Object (class_type (first p keeps form + 1))) (codes "kilim/Sys") (sys_name p keeps form) refl refl (λ m v t e. text_shown p keeps form m of h heap v t.0 e), (alone _ native.Yield tt (codes "kilim/Sys") (sys_name p keeps form) refl refl, (alone _ native.ArgCount tt (codes "kilim/Sys") (sys_name p keeps form) refl refl, (gives_arg _ (codes "kilim/Sys") (sys_name p keeps form) refl refl, (takes _ refl (ap (λ (x : List ℕ). bytes_eq x (codes "kilim/Sys") && true) (sys_name p keeps form)), constructors_too (AnswersAs p of h) (length keeps.built_in.own_classes) exception_numbers [] (λ c. plainly (built_in_constructor c) refl) tt))))))))))))))))))
+  all_answer = (plainly _ refl, (of_text _ text_named, (of_text _ text_named, (of_text _ text_named, (plainly _ refl, (of_task _ native.Start refl (λ n. tt) (codes "kilim/Task") (task_name p keeps form) refl refl, (of_task _ native.Execute refl (λ n. tt) (codes "kilim/Task") (task_name p keeps form) refl refl, (plainly _ refl, (bounds _ refl (codes "kilim/Mailbox") (mailbox_name p keeps form) refl refl, (puts _ refl (codes "kilim/Mailbox") (mailbox_name p keeps form) refl refl, (puts_or_waits _ refl (codes "kilim/Mailbox") (mailbox_name p keeps form) refl refl, (of_box _ native.Get refl (λ b. tt) (codes "kilim/Mailbox") (mailbox_name p keeps form) refl refl, (of_box _ native.Getnb refl (λ b. tt) (codes "kilim/Mailbox") (mailbox_name p keeps form) refl refl, (prints _ vtype.Int (codes "kilim/Sys") (sys_name p keeps form) refl refl (λ m v t e. let r = int_is p m of v e in (token.Int r.0, ap printed r.1)), (prints _ vtype.Long (codes "kilim/Sys") (sys_name p keeps form) refl refl (λ m v t e. let r = long_is p m of v e in (token.Long r.0, ap printed r.1)), (prints _ (vtype.Object (class_type (first p keeps form + 1))) (codes "kilim/Sys") (sys_name p keeps form) refl refl (λ m v t e. text_shown p keeps form m of h heap v t.0 e), (alone _ native.Yield tt (codes "kilim/Sys") (sys_name p keeps form) refl refl, (alone _ native.ArgCount tt (codes "kilim/Sys") (sys_name p keeps form) refl refl, (gives_arg _ (codes "kilim/Sys") (sys_name p keeps form) refl refl, (takes _ refl (ap (λ (x : List ℕ). bytes_eq x (codes "kilim/Sys") && true) (sys_name p keeps form)), constructors_too (AnswersAs p of h) (length keeps.built_in.own_classes) exception_numbers [] (λ c. plainly (built_in_constructor c) refl) tt))))))))))))))))))))
 
   pub answers : (id : MethodId) (m : Method) → method_at p id ≡ Some m → m.built_in ≡ true → (args : List Value) → AsksWell p h m args → have_types p m of (native_types m) args ≡ true → (k : Native) × (native_method p m ≡ Some k) × TakesSuch k args
   unfolding AnswersAs

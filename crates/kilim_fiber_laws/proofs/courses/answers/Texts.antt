@@ -67,10 +67,10 @@ string_methods : (a b : ℕ) (c : Class) → slice_get (built_in_classes_in Plai
 string_methods a b c e = let s : _ ≡ c = some e in sym (ap (λ (x : Class). x.methods) s)
 
 all_built : (n : ℕ) → AllByRecursion (λ (m : Method). m.built_in ≡ true) (built_in_methods_in Plain n)
-all_built n = (refl, (refl, (refl, (refl, (refl, (refl, (refl, (refl, (refl, (refl, (refl, (refl, (refl, (refl, (refl, (refl, (refl, (refl, constructors_too (λ (m : Method). m.built_in ≡ true) n exception_numbers [] (λ c. refl) tt))))))))))))))))))
+all_built n = (refl, (refl, (refl, (refl, (refl, (refl, (refl, (refl, (refl, (refl, (refl, (refl, (refl, (refl, (refl, (refl, (refl, (refl, (refl, (refl, constructors_too (λ (m : Method). m.built_in ≡ true) n exception_numbers [] (λ c. refl) tt))))))))))))))))))))
 
 all_bare : (n : ℕ) → AllByRecursion (λ (m : Method). has_code m ≡ false) (built_in_methods_in Plain n)
-all_bare n = (refl, (refl, (refl, (refl, (refl, (refl, (refl, (refl, (refl, (refl, (refl, (refl, (refl, (refl, (refl, (refl, (refl, (refl, constructors_too (λ (m : Method). has_code m ≡ false) n exception_numbers [] (λ c. refl) tt))))))))))))))))))
+all_bare n = (refl, (refl, (refl, (refl, (refl, (refl, (refl, (refl, (refl, (refl, (refl, (refl, (refl, (refl, (refl, (refl, (refl, (refl, (refl, (refl, constructors_too (λ (m : Method). has_code m ≡ false) n exception_numbers [] (λ c. refl) tt))))))))))))))))))))
 
 number_of : Base → ℕ
 number_of (base.Class c) = c.0
@@ -106,18 +106,6 @@ module _ (p : Program) (keeps : Keeps p) (form : p.form ≡ Plain) where
   pub bare : (id : MethodId) (m : Method) → method_at p id ≡ Some m → m.built_in ≡ true → has_code m ≡ false
   bare id m there own = built_in_one p keeps form (λ (x : Method). has_code x ≡ false) (all_bare (length keeps.built_in.own_classes)) id m there own
 
-  -- a built-in constructor that takes something has a receiver, of another class than that of strings
-  OtherClass : Method → Type 0
-  OtherClass m = is_built_in_constructor m ≡ false → is_constructor m ≡ true → (is_text_method p m ≡ false) × (m.is_static ≡ false)
-
-  all_other : (n : ℕ) → AllByRecursion OtherClass (built_in_methods_in Plain n)
-  unfolding OtherClass
-  all_other n = ((λ a b. absurd (let z : true ≡ false = a in cc)), ((λ a b. absurd (let z : false ≡ true = b in cc)), ((λ a b. absurd (let z : false ≡ true = b in cc)), ((λ a b. absurd (let z : false ≡ true = b in cc)), ((λ a b. absurd (let z : true ≡ false = a in cc)), ((λ a b. absurd (let z : false ≡ true = b in cc)), ((λ a b. absurd (let z : false ≡ true = b in cc)), ((λ a b. absurd (let z : true ≡ false = a in cc)), ((λ a b. absurd (let z : false ≡ true = b in cc)), ((λ a b. absurd (let z : false ≡ true = b in cc)), ((λ a b. absurd (let z : false ≡ true = b in cc)), ((λ a b. absurd (let z : false ≡ true = b in cc)), ((λ a b. absurd (let z : false ≡ true = b in cc)), ((λ a b. absurd (let z : false ≡ true = b in cc)), ((λ a b. absurd (let z : false ≡ true = b in cc)), ((λ a b. absurd (let z : false ≡ true = b in cc)), ((λ a b. absurd (let z : false ≡ true = b in cc)), ((λ a b. absurd (let z : false ≡ true = b in cc)), constructors_too OtherClass n exception_numbers [] (λ c a b. absurd (let z : true ≡ false = a in cc)) tt))))))))))))))))))
-
-  pub constructs_other : (id : MethodId) (m : Method) → method_at p id ≡ Some m → m.built_in ≡ true → is_built_in_constructor m ≡ false → is_constructor m ≡ true → (is_text_method p m ≡ false) × (m.is_static ≡ false)
-  unfolding OtherClass
-  constructs_other id m there own = built_in_one p keeps form OtherClass (all_other (length keeps.built_in.own_classes)) id m there own
-
   -- ---- classes by their names
 
   pub string_name : class_name p (class_id (first p keeps form + 1)) ≡ codes "java/lang/String"
@@ -131,6 +119,18 @@ module _ (p : Program) (keeps : Keeps p) (form : p.form ≡ Plain) where
 
   pub sys_name : class_name p (class_id (first p keeps form + 6)) ≡ codes "kilim/Sys"
   sys_name = named_at p keeps Plain form 6 (codes "kilim/Sys") (record { class = _; at = refl; is = refl })
+
+  -- a built-in constructor that takes something has a receiver, of another class than that of strings
+  OtherClass : Method → Type 0
+  OtherClass m = is_built_in_constructor m ≡ false → is_constructor m ≡ true → (is_text_method p m ≡ false) × (m.is_static ≡ false)
+
+  all_other : AllByRecursion OtherClass (built_in_methods_in Plain (length keeps.built_in.own_classes))
+  unfolding OtherClass
+  all_other = ((λ a b. absurd (let z : true ≡ false = a in cc)), ((λ a b. absurd (let z : false ≡ true = b in cc)), ((λ a b. absurd (let z : false ≡ true = b in cc)), ((λ a b. absurd (let z : false ≡ true = b in cc)), ((λ a b. absurd (let z : true ≡ false = a in cc)), ((λ a b. absurd (let z : false ≡ true = b in cc)), ((λ a b. absurd (let z : false ≡ true = b in cc)), ((λ a b. absurd (let z : true ≡ false = a in cc)), ((λ a b. (ap (λ (x : List ℕ). bytes_eq x (codes "java/lang/String")) mailbox_name, refl)), ((λ a b. absurd (let z : false ≡ true = b in cc)), ((λ a b. absurd (let z : false ≡ true = b in cc)), ((λ a b. absurd (let z : false ≡ true = b in cc)), ((λ a b. absurd (let z : false ≡ true = b in cc)), ((λ a b. absurd (let z : false ≡ true = b in cc)), ((λ a b. absurd (let z : false ≡ true = b in cc)), ((λ a b. absurd (let z : false ≡ true = b in cc)), ((λ a b. absurd (let z : false ≡ true = b in cc)), ((λ a b. absurd (let z : false ≡ true = b in cc)), ((λ a b. absurd (let z : false ≡ true = b in cc)), ((λ a b. absurd (let z : false ≡ true = b in cc)), constructors_too OtherClass (length keeps.built_in.own_classes) exception_numbers [] (λ c a b. absurd (let z : true ≡ false = a in cc)) tt))))))))))))))))))))
+
+  pub constructs_other : (id : MethodId) (m : Method) → method_at p id ≡ Some m → m.built_in ≡ true → is_built_in_constructor m ≡ false → is_constructor m ≡ true → (is_text_method p m ≡ false) × (m.is_static ≡ false)
+  unfolding OtherClass
+  constructs_other id m there own = built_in_one p keeps form OtherClass all_other id m there own
 
   same_class : (name : List ℕ) → bytes_eq [] name ≡ false → (a b : ClassId) → bytes_eq (class_name p a) name ≡ true → bytes_eq (class_name p b) name ≡ true → a.0 ≡ b.0
   unfolding number_of

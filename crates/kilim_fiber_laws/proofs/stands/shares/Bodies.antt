@@ -139,22 +139,28 @@ module _ (P : Program) (keeps : Keeps P) (plainly : P.form ≡ Plain) where
                   (
                     still P _ _ mailbox refl refl (refl, refl),
                     (
-                      pauses P _ _ mailbox refl refl (refl, refl) refl refl refl,
+                      still P _ _ mailbox refl refl (refl, refl),
                       (
-                        still P _ _ mailbox refl refl (refl, refl),
+                        pauses P _ _ mailbox refl refl (refl, refl) refl refl refl,
                         (
-                          still P _ _ sys refl refl (refl, refl),
+                          pauses P _ _ mailbox refl refl (refl, refl) refl refl refl,
                           (
-                            still P _ _ sys refl refl (refl, refl),
+                            still P _ _ mailbox refl refl (refl, refl),
                             (
                               still P _ _ sys refl refl (refl, refl),
                               (
-                                pauses P _ _ sys refl refl (refl, refl) refl refl refl,
+                                still P _ _ sys refl refl (refl, refl),
                                 (
                                   still P _ _ sys refl refl (refl, refl),
                                   (
-                                    still P _ _ sys refl refl (refl, refl),
-                                    (still P _ _ sys refl refl tt, constructors_too (FitBuiltIn P) n exception_numbers [] (λ c. still P (built_in_constructor c) (class_name P c) refl refl refl tt) tt),
+                                    pauses P _ _ sys refl refl (refl, refl) refl refl refl,
+                                    (
+                                      still P _ _ sys refl refl (refl, refl),
+                                      (
+                                        still P _ _ sys refl refl (refl, refl),
+                                        (still P _ _ sys refl refl tt, constructors_too (FitBuiltIn P) n exception_numbers [] (λ c. still P (built_in_constructor c) (class_name P c) refl refl refl tt) tt),
+                                      ),
+                                    ),
                                   ),
                                 ),
                               ),

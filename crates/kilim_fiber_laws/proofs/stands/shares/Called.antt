@@ -77,14 +77,14 @@ module _ (P W : Program) (counted : List (List Bool)) (keeps : Keeps P) (plainly
 
   -- the number of a member, among the methods of the fiber's class
   abbrev at_number : ℕ → MethodId
-  at_number n = method_id (first_method P + (29 + n))
+  at_number n = method_id (first_method P + (31 + n))
 
-  many : length P.methods ≡ length keeps.built_in.own_methods + 29
+  many : length P.methods ≡ length keeps.built_in.own_methods + 31
   many = ap length keeps.built_in.methods
       ∙ (length-append keeps.built_in.own_methods (built_in_methods_in P.form (length keeps.built_in.own_classes)) ∙ ap (λ (f : Form). length keeps.built_in.own_methods + length (built_in_methods_in f (length keeps.built_in.own_classes))) plainly)
 
-  number : (n : ℕ) → first_method P + (29 + n) ≡ length P.methods + n
-  number n = let e : first_method P ≡ length P.methods - 29 = refl in let m = many in omega (arith, e, m)
+  number : (n : ℕ) → first_method P + (31 + n) ≡ length P.methods + n
+  number n = let e : first_method P ≡ length P.methods - 31 = refl in let m = many in omega (arith, e, m)
 
   is_there : (n : ℕ) (m : Method) → slice_get (fiber_methods Woven (first_class P)) n ≡ Some m → method_at W (at_number n) ≡ Some m
   is_there n m e = ap (λ (k : ℕ). method_at W (method_id k)) (number n) ∙ (fibers_of.member_at P W counted keeps plainly form n m e).0

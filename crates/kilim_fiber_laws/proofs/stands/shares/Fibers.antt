@@ -169,7 +169,13 @@ module _ (P W : Program) (counted : List (List Bool)) (keeps : Keeps P) (plainly
                       (λ e. absurd (false≢true e)),
                       (
                         (λ e. absurd (false≢true e)),
-                        ((λ e. absurd (false≢true e)), ((λ e. absurd (false≢true e)), ((λ e. absurd (false≢true e)), ((λ e. absurd (false≢true e)), ((λ e. absurd (false≢true e)), ((λ e. absurd (false≢true e)), ((λ e. absurd (false≢true e)), constructors_too ExecutesAs n exception_numbers [] (λ c e. absurd (false≢true e)) tt))))))),
+                        (
+                          (λ e. absurd (false≢true e)),
+                          (
+                            (λ e. absurd (false≢true e)),
+                            ((λ e. absurd (false≢true e)), ((λ e. absurd (false≢true e)), ((λ e. absurd (false≢true e)), ((λ e. absurd (false≢true e)), ((λ e. absurd (false≢true e)), ((λ e. absurd (false≢true e)), ((λ e. absurd (false≢true e)), constructors_too ExecutesAs n exception_numbers [] (λ c e. absurd (false≢true e)) tt))))))),
+                          ),
+                        ),
                       ),
                     ),
                   ),

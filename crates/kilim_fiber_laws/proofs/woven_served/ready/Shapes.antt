@@ -76,19 +76,22 @@ this_get : (m : Method) → IsGet m → GetAs m
 unfolding GetAs
 this_get m e = λ f. e
 
+this_wait : (m : Method) → IsPutWait m → WaitAs m
+unfolding WaitAs
+this_wait m e = λ f. e
+
 this_yield : (m : Method) → IsYield m → YieldAs m
 unfolding YieldAs
 this_yield m e = λ f. e
 
 all_get : (n : ℕ) → AllByRecursion GetAs (built_in_methods_in Plain n)
-all_get n = (other_get _ refl, (other_get _ refl, (other_get _ refl, (other_get _ refl, (other_get _ refl, (other_get _ refl, (other_get _ refl, (other_get _ refl, (other_get _ refl, (this_get _ (refl, refl, (_, refl, refl)), (other_get _ refl, (other_get _ refl, (other_get _ refl, (other_get _ refl, (other_get _ refl, (other_get _ refl, (other_get _ refl, (other_get _ refl, constructors_too (GetAs) n exception_numbers [] (λ c. other_get _ refl) tt))))))))))))))))))
+all_get n = (other_get _ refl, (other_get _ refl, (other_get _ refl, (other_get _ refl, (other_get _ refl, (other_get _ refl, (other_get _ refl, (other_get _ refl, (other_get _ refl, (other_get _ refl, (other_get _ refl, (this_get _ (refl, refl, (_, refl, refl)), (other_get _ refl, (other_get _ refl, (other_get _ refl, (other_get _ refl, (other_get _ refl, (other_get _ refl, (other_get _ refl, (other_get _ refl, constructors_too (GetAs) n exception_numbers [] (λ c. other_get _ refl) tt))))))))))))))))))))
 
--- no built-in method is called so yet
 all_wait : (n : ℕ) → AllByRecursion WaitAs (built_in_methods_in Plain n)
-all_wait n = (other_wait _ refl, (other_wait _ refl, (other_wait _ refl, (other_wait _ refl, (other_wait _ refl, (other_wait _ refl, (other_wait _ refl, (other_wait _ refl, (other_wait _ refl, (other_wait _ refl, (other_wait _ refl, (other_wait _ refl, (other_wait _ refl, (other_wait _ refl, (other_wait _ refl, (other_wait _ refl, (other_wait _ refl, (other_wait _ refl, constructors_too (WaitAs) n exception_numbers [] (λ c. other_wait _ refl) tt))))))))))))))))))
+all_wait n = (other_wait _ refl, (other_wait _ refl, (other_wait _ refl, (other_wait _ refl, (other_wait _ refl, (other_wait _ refl, (other_wait _ refl, (other_wait _ refl, (other_wait _ refl, (other_wait _ refl, (this_wait _ ((_, refl, refl), refl, refl), (other_wait _ refl, (other_wait _ refl, (other_wait _ refl, (other_wait _ refl, (other_wait _ refl, (other_wait _ refl, (other_wait _ refl, (other_wait _ refl, (other_wait _ refl, constructors_too (WaitAs) n exception_numbers [] (λ c. other_wait _ refl) tt))))))))))))))))))))
 
 all_yield : (n : ℕ) → AllByRecursion YieldAs (built_in_methods_in Plain n)
-all_yield n = (other_yield _ refl, (other_yield _ refl, (other_yield _ refl, (other_yield _ refl, (other_yield _ refl, (other_yield _ refl, (other_yield _ refl, (other_yield _ refl, (other_yield _ refl, (other_yield _ refl, (other_yield _ refl, (other_yield _ refl, (other_yield _ refl, (other_yield _ refl, (this_yield _ (refl, refl, refl), (other_yield _ refl, (other_yield _ refl, (other_yield _ refl, constructors_too (YieldAs) n exception_numbers [] (λ c. other_yield _ refl) tt))))))))))))))))))
+all_yield n = (other_yield _ refl, (other_yield _ refl, (other_yield _ refl, (other_yield _ refl, (other_yield _ refl, (other_yield _ refl, (other_yield _ refl, (other_yield _ refl, (other_yield _ refl, (other_yield _ refl, (other_yield _ refl, (other_yield _ refl, (other_yield _ refl, (other_yield _ refl, (other_yield _ refl, (other_yield _ refl, (this_yield _ (refl, refl, refl), (other_yield _ refl, (other_yield _ refl, (other_yield _ refl, constructors_too (YieldAs) n exception_numbers [] (λ c. other_yield _ refl) tt))))))))))))))))))))
 
 module _ (p : Program) (keeps : Keeps p) (form : p.form ≡ Plain) where
   built : (m : Method) (k : Native) → native_method p m ≡ Some k → (m.built_in ≡ true) × (native_named natives (class_name p m.owner) m.name ≡ Some k)

@@ -18,7 +18,7 @@ use Rattle.kilim_isolation_rules.specs.declared.deed.Passed.{Passed}
 use Rattle.kilim_isolation_rules.specs.Calls.{arguments, is_free, is_not_free, is_owned, more_arguments, quality_in}
 use Rattle.kilim_isolation_rules.specs.Marks.{names_no_root}
 use Rattle.kilim_isolation_rules.specs.Steps.{Argument, Free}
-use Rattle.kilim_isolation_laws.specs.graph_rows.Holds.{Fits, SlotFits, Sort, Tree, Word, named_by, refers, type_sort, unnamed}
+use Rattle.kilim_isolation_laws.specs.graph_rows.Holds.{Fits, SlotFits, Tree, named_by, type_sort, unnamed}
 use Rattle.kilim_isolation_laws.specs.graph_rows.Outcome.{ArgsFit, NoneFree}
 use Rattle.kilim_isolation_laws.proofs.graph_rows.Fields.{tree_sort}
 use Rattle.kilim_isolation_laws.proofs.graph_rows.Putting.{not_false, root_is}

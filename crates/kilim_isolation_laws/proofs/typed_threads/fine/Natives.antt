@@ -49,7 +49,7 @@ module _ (p : Program) (first : ℕ) where
 module _ (p : Program) (n : ℕ) (object : class_name p (class_id n) ≡ codes "java/lang/Object") (string : class_name p (class_id (n + 1)) ≡ codes "java/lang/String") (task : class_name p (class_id (n + 4)) ≡ codes "kilim/Task")
     (mailbox : class_name p (class_id (n + 5)) ≡ codes "kilim/Mailbox") (sys : class_name p (class_id (n + 6)) ≡ codes "kilim/Sys") where
   all_give : AllByRecursion (GivesAs p n) (built_in_methods_in Plain n)
-  all_give = (as_none p n _ (codes "java/lang/Object") object refl, (as_none p n _ (codes "java/lang/String") string refl, (as_none p n _ (codes "java/lang/String") string refl, (as_none p n _ (codes "java/lang/String") string refl, (as_none p n _ (codes "kilim/Task") task refl, (as_some p n _ (codes "kilim/Task") native.Start task refl refl, (as_some p n _ (codes "kilim/Task") native.Execute task refl refl, (as_none p n _ (codes "kilim/Mailbox") mailbox refl, (as_some p n _ (codes "kilim/Mailbox") native.Put mailbox refl refl, (as_some p n _ (codes "kilim/Mailbox") native.Get mailbox refl refl, (as_some p n _ (codes "kilim/Mailbox") native.Getnb mailbox refl refl, (as_some p n _ (codes "kilim/Sys") native.Print sys refl refl, (as_some p n _ (codes "kilim/Sys") native.Print sys refl refl, (as_some p n _ (codes "kilim/Sys") native.Print sys refl refl, (as_some p n _ (codes "kilim/Sys") native.Yield sys refl refl, (as_some p n _ (codes "kilim/Sys") native.ArgCount sys refl refl, (as_some p n _ (codes "kilim/Sys") native.Arg sys refl refl, (as_none p n _ (codes "kilim/Sys") sys refl, constructors_too (GivesAs p n) n exception_numbers [] (λ c. as_none p n (built_in_constructor c) (class_name p c) refl refl) tt))))))))))))))))))
+  all_give = (as_none p n _ (codes "java/lang/Object") object refl, (as_none p n _ (codes "java/lang/String") string refl, (as_none p n _ (codes "java/lang/String") string refl, (as_none p n _ (codes "java/lang/String") string refl, (as_none p n _ (codes "kilim/Task") task refl, (as_some p n _ (codes "kilim/Task") native.Start task refl refl, (as_some p n _ (codes "kilim/Task") native.Execute task refl refl, (as_none p n _ (codes "kilim/Mailbox") mailbox refl, (as_some p n _ (codes "kilim/Mailbox") native.Bound mailbox refl refl, (as_some p n _ (codes "kilim/Mailbox") native.Put mailbox refl refl, (as_some p n _ (codes "kilim/Mailbox") native.PutWait mailbox refl refl, (as_some p n _ (codes "kilim/Mailbox") native.Get mailbox refl refl, (as_some p n _ (codes "kilim/Mailbox") native.Getnb mailbox refl refl, (as_some p n _ (codes "kilim/Sys") native.Print sys refl refl, (as_some p n _ (codes "kilim/Sys") native.Print sys refl refl, (as_some p n _ (codes "kilim/Sys") native.Print sys refl refl, (as_some p n _ (codes "kilim/Sys") native.Yield sys refl refl, (as_some p n _ (codes "kilim/Sys") native.ArgCount sys refl refl, (as_some p n _ (codes "kilim/Sys") native.Arg sys refl refl, (as_none p n _ (codes "kilim/Sys") sys refl, constructors_too (GivesAs p n) n exception_numbers [] (λ c. as_none p n (built_in_constructor c) (class_name p c) refl refl) tt))))))))))))))))))))
 
 -- ---- of a program in plain form
 

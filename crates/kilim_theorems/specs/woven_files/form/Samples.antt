@@ -71,7 +71,7 @@ abbrev pub loop_file : ClassFile
 loop_file = record a_file { constant_pool = loop_pool; methods = loop_constructor ∷ loop_execute ∷ [] }
 
 abbrev pub loop_plain : Method
-loop_plain = record a_execute { code = (0, Invokestatic (method_id 16)) ∷ (3, Goto 0) ∷ [] }
+loop_plain = record a_execute { code = (0, Invokestatic (method_id 18)) ∷ (3, Goto 0) ∷ [] }
 
 abbrev pub loop_frame : Frame
 loop_frame = record { locals = Top ∷ Top ∷ Object (class_type 19) ∷ Object (class_type 0) ∷ []; stack = [] }
@@ -82,9 +82,9 @@ loop_method = record woven_execute {
   max_locals = 4;
   code_length = 55;
   code =
-      (0, Aload 1) ∷ (1, Astore 2) ∷ (2, Aload 0) ∷ (3, Astore 3) ∷ (4, Aload 2) ∷ (5, Invokevirtual (method_id 31)) ∷ (8, Tableswitch 28 (pos 1) (52 ∷ []))
-      ∷ (28, Aload 2) ∷ (29, Invokevirtual (method_id 32)) ∷ (32, Invokestatic (method_id 16)) ∷ (35, Aload 2) ∷ (36, Invokevirtual (method_id 33)) ∷ (39, Ifeq 49)
-      ∷ (42, Iconst (pos 1)) ∷ (43, Aload 3) ∷ (44, Aload 2) ∷ (45, Invokestatic (method_id 37)) ∷ (48, Return) ∷ (49, Goto 28) ∷ (52, Goto 28) ∷ [];
+      (0, Aload 1) ∷ (1, Astore 2) ∷ (2, Aload 0) ∷ (3, Astore 3) ∷ (4, Aload 2) ∷ (5, Invokevirtual (method_id 33)) ∷ (8, Tableswitch 28 (pos 1) (52 ∷ []))
+      ∷ (28, Aload 2) ∷ (29, Invokevirtual (method_id 34)) ∷ (32, Invokestatic (method_id 18)) ∷ (35, Aload 2) ∷ (36, Invokevirtual (method_id 35)) ∷ (39, Ifeq 49)
+      ∷ (42, Iconst (pos 1)) ∷ (43, Aload 3) ∷ (44, Aload 2) ∷ (45, Invokestatic (method_id 39)) ∷ (48, Return) ∷ (49, Goto 28) ∷ (52, Goto 28) ∷ [];
   frames = (28, loop_frame) ∷ (49, loop_frame) ∷ (52, loop_frame) ∷ [];
 }
 

@@ -132,11 +132,11 @@ module _ (P W : Program) (counted : List (List Bool)) (keeps : Keeps P) (plainly
   many : length P.classes ≡ own + 18
   many = how_many P W counted keeps plainly form
 
-  many_methods : length P.methods ≡ made + 29
+  many_methods : length P.methods ≡ made + 31
   many_methods = ap length keeps.built_in.methods ∙ (length-append keeps.built_in.own_methods (built_in_methods_in P.form own) ∙ ap (λ (f : Form). made + length (built_in_methods_in f own)) plainly)
 
   pub first_methods : first_method P ≡ made
-  first_methods = let e : first_method P ≡ length P.methods - 29 = refl in let n = many_methods in omega (arith, e, n)
+  first_methods = let e : first_method P ≡ length P.methods - 31 = refl in let n = many_methods in omega (arith, e, n)
 
   first_classes : first_class P ≡ own
   first_classes = let e : first_class P ≡ length P.classes - 18 = refl in let n = many in omega (arith, e, n)

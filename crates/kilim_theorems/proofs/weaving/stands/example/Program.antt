@@ -92,7 +92,7 @@ loop_is_typed = record { methods = each_of (λ m. has_code m ≡ true → WellTy
 
 execute_across : NoneAcross loop (typing_of loop loop_execute) loop_execute.code
 unfolding typing_of meets row special_fits fits_type jump_targets ends_path
-execute_across = ((λ callee e. (ap (λ (m : Method). list_any is_unset (drop (taken m) (typing_of loop loop_execute 0).stack)) (sym (same_Some (own_of loop (method_id 16)) callee e)), refl)), ((λ callee e. absurd (none-some callee e)), tt))
+execute_across = ((λ callee e. (ap (λ (m : Method). list_any is_unset (drop (taken m) (typing_of loop loop_execute 0).stack)) (sym (same_Some (own_of loop (method_id 18)) callee e)), refl)), ((λ callee e. absurd (none-some callee e)), tt))
 
 constructor_across : NoneAcross loop (typing_of loop (sample_constructor 0 6)) (sample_constructor 0 6).code
 constructor_across = ((λ callee e. absurd (none-some callee e)), ((λ callee e. absurd (none-some callee e)), ((λ callee e. absurd (none-some callee e)), tt)))

@@ -88,7 +88,7 @@ along : (P : Instr → ℕ → Type 0) (j i : Instr) (a b : ℕ) → behind j a 
 along P j i a b e x = subst (λ (z : Instr × ℕ). P z.0 z.1) (same_Some (j, a) (i, b) e) x
 
 abbrev yields : Instr
-yields = Invokestatic (method_id 16)
+yields = Invokestatic (method_id 18)
 
 -- ---- no method is called that has code
 
@@ -143,7 +143,7 @@ none_shown live is p k = by (live p k) refl
 -- ---- the method that is called
 
 abbrev the_yield : Method
-the_yield = own_of loop (method_id 16)
+the_yield = own_of loop (method_id 18)
 
 abbrev or_yield : Option Method → Method
 or_yield None = the_yield
@@ -207,7 +207,7 @@ module _ (form : Forms two_steps woven_loop woven_loop_marks) (facts : (m : Meth
 
   redoes : Redoes two_steps woven_loop woven_loop_marks form one_object (method_id 1) yields 3 the_yield Null (Leaf native.Yield)
   unfolding does
-  redoes = (method_id 16, [], (λ l s. refl), refl, (refl, refl, tt))
+  redoes = (method_id 18, [], (λ l s. refl), refl, (refl, refl, tt))
 
   fits_there : (wl : List Value) (was_number : ℕ) (was : Value) → Fit two_steps woven_loop woven_loop_marks form one_object (Leaf native.Yield) Null (Lk (method_id 1) 0 3 yields the_yield [] (Ref 0 ∷ []) wl (Ref 0) was_number was)
   fits_there wl was_number was = (nothing_below, nothing_saved, tt, redoes, old, record { clean = tt; receives = tt }, omega (arith), (record { class = class_type 0; fields = []; elements = [] }, one_there))
