@@ -28,6 +28,9 @@ public final class Fiber {
     /** Whether frames are returning since a call paused. */
     boolean pausing;
 
+    /** Whether it paused to put. */
+    boolean putting;
+
     private boolean begun;
 
     /** The number of its task. */
@@ -183,10 +186,11 @@ public final class Fiber {
         receivers[at] = receiver;
     }
 
-    /** A call of the runtime pauses: for a message of a mailbox, or, for null, to let others go on. */
-    void pause(Mailbox box) {
+    /** A call of the runtime pauses: for a message of a mailbox, or for room in it; or, for null, to let others go on. */
+    void pause(Mailbox box, boolean puts) {
         record(0, box);
         waits = box;
+        putting = puts;
         pausing = true;
     }
 

@@ -14,6 +14,7 @@ final class Journal {
     private static final AtomicLong STAMPS = new AtomicLong();
     private static final int FEW = 64;
     private static final int PART = 1 << 20;
+    private static final long NONE = -1;
 
     /** Some entries, one behind another: a megabyte of text, and their stamps and the places where they end. */
     private static final class Part {
@@ -28,6 +29,7 @@ final class Journal {
     private Part last = first;
     private long stamps;
     private long startStamp;
+    private long endStamp = NONE;
     private final Text shape = new Text();
     private final Shapes shapes = new Shapes();
 
@@ -39,6 +41,11 @@ final class Journal {
     /** Draws the stamp of a start. */
     void stampStart() {
         startStamp = stamp();
+    }
+
+    /** Draws the stamp of the end that follows at once. */
+    void stampEnd() {
+        endStamp = stamp();
     }
 
     /** Writes the shape of a tree that is about to be put or started, and sees that the entry of that has room on the stack. */
@@ -73,9 +80,16 @@ final class Journal {
         end(stamp(), begin(task).put(" print ").put(value));
     }
 
+    /** A mailbox was made with a bound. */
+    void bound(int task, Mailbox box, int most) {
+        end(stamp(), begin(task).put(" bound ").box(box).put(' ').number(most));
+    }
+
     /** A task ended. */
     void end(int task, String cause) {
-        end(stamp(), begin(task).put(" end ").put(cause));
+        long stamp = endStamp == NONE ? stamp() : endStamp;
+        endStamp = NONE;
+        end(stamp, begin(task).put(" end ").put(cause));
     }
 
     private Text begin(int task) {

@@ -27,22 +27,63 @@ public final class Mailbox {
     private int head;
     private int size;
 
-    /** The fibers that wait here, a list by their {@code next}. */
+    /** The fibers that wait here for a message, a list by their {@code next}. */
     private Fiber first;
     private Fiber last;
 
-    /** Makes an empty mailbox. */
+    /** What a mailbox with a bound has beside the rest; null for one without. */
+    private static final class Bound {
+        final int most;
+
+        /** The fibers that wait here for room, a list by their {@code next}. */
+        Fiber first;
+        Fiber last;
+
+        Bound(int most) {
+            this.most = most;
+        }
+    }
+
+    private final Bound bound;
+
+    /** Makes an empty mailbox, into which any number of messages may be put. */
     public Mailbox() {
+        Fiber maker = maker();
+        task = maker.task;
+        number = maker.boxes++;
+        bound = null;
+    }
+
+    /**
+     * Makes an empty mailbox with a bound: it is full where it holds as many messages.
+     *
+     * @param most the bound, at least 1
+     */
+    public Mailbox(int most) {
+        Worker.room();
+        Fiber maker = maker();
+        task = maker.task;
+        number = maker.boxes++;
+        if (most < 1) {
+            throw new NegativeArraySizeException();
+        }
+        bound = new Bound(most);
+        if (Settings.JOURNAL) {
+            Worker.current().journal.bound(task, this, most);
+        }
+    }
+
+    private static Fiber maker() {
         Fiber maker = Worker.current().now;
         if (maker.boxes >= Settings.MOST_BOXES) {
             throw new Ended("boxes");
         }
-        task = maker.task;
-        number = maker.boxes++;
+        return maker;
     }
 
     /**
-     * Gives a message, and all that hangs from it, away: it may not be used afterwards. It is the last in the queue.
+     * Gives a message, and all that hangs from it, away: it may not be used afterwards. It is the last in the queue. Where the mailbox
+     * is full the task ends.
      *
      * @param message the root of a tree that isn't part of another one
      */
@@ -50,6 +91,45 @@ public final class Mailbox {
         if (message == null) {
             throw new NullPointerException();
         }
+        if (!append(message, false)) {
+            throw new Ended("full");
+        }
+    }
+
+    /**
+     * Gives a message, and all that hangs from it, away: it may not be used afterwards. It is the last in the queue. While the mailbox
+     * is full the task pauses.
+     *
+     * @param message the root of a tree that isn't part of another one
+     * @throws Pausable never: it says that the call may pause
+     */
+    public void putw(@Free Message message) throws Pausable {
+        throw new Unwoven();
+    }
+
+    /**
+     * The woven form of {@link #putw(Message)}.
+     *
+     * @param message the root of a tree; nothing where the call is made again, as the fiber kept it
+     * @param fiber the fiber of the task
+     * @throws Pausable never: it says that the call may pause
+     */
+    public void putw(@Free Message message, Fiber fiber) throws Pausable {
+        Message given = message;
+        if (fiber.rewinding) {
+            fiber.rewinding = false;
+            given = (Message) fiber.restA();
+        } else if (message == null) {
+            throw new NullPointerException();
+        }
+        if (!append(given, true)) {
+            Fiber.saveA(given, fiber);
+            fiber.pause(this, true);
+        }
+    }
+
+    /** Appends a message, unless the mailbox is full; a task that doesn't wait ends then, while it is full. */
+    private boolean append(Message message, boolean waits) {
         Worker worker = Worker.current();
         if (Settings.JOURNAL) {
             worker.journal.shape(message);
@@ -59,6 +139,12 @@ public final class Mailbox {
         long place;
         acquire();
         try {
+            if (isFull()) {
+                if (Settings.JOURNAL && !waits) {
+                    worker.journal.stampEnd();
+                }
+                return false;
+            }
             if (queue == null) {
                 queue = new Message[FEW];
             } else if (size == queue.length) {
@@ -93,6 +179,11 @@ public final class Mailbox {
         if (worker.woken != null) {
             worker.wake();
         }
+        return true;
+    }
+
+    private boolean isFull() {
+        return bound != null && size >= bound.most;
     }
 
     /**
@@ -117,7 +208,7 @@ public final class Mailbox {
         // a put that isn't seen here is seen when the fiber is parked
         Message message = size == 0 ? null : take(false);
         if (message == null) {
-            fiber.pause(this);
+            fiber.pause(this, false);
         }
         return message;
     }
@@ -133,7 +224,7 @@ public final class Mailbox {
 
     private Message take(boolean probe) {
         Worker worker = null;
-        if (Settings.JOURNAL) {
+        if (Settings.JOURNAL || bound != null) {
             worker = Worker.current();
             Worker.room();
         }
@@ -159,6 +250,13 @@ public final class Mailbox {
                     queue = null;
                     head = 0;
                 }
+                if (bound != null && bound.first != null) {
+                    worker.woken = bound.first;
+                    bound.first = bound.first.next;
+                    if (bound.first == null) {
+                        bound.last = null;
+                    }
+                }
             }
         } finally {
             if (!Settings.ALONE) {
@@ -169,6 +267,9 @@ public final class Mailbox {
             worker.journal.take(stamp, worker.now.task, this, place);
         } else if (Settings.JOURNAL && probe) {
             worker.journal.empty(stamp, worker.now.task, this);
+        }
+        if (bound != null && worker.woken != null) {
+            worker.wake();
         }
         return message;
     }
@@ -183,23 +284,32 @@ public final class Mailbox {
     }
 
     /**
-     * Has a fiber wait here, all of whose frames have returned, unless a message has come meanwhile. Once it waits, another worker
-     * may run it.
+     * Has a fiber wait here, all of whose frames have returned, unless what it waits for has come meanwhile. Once it waits, another
+     * worker may run it.
      *
      * @return whether it waits
      */
     boolean park(Fiber fiber) {
         acquire();
-        boolean parks = size == 0;
+        boolean parks = fiber.putting ? isFull() : size == 0;
         Pool.stop();
         if (parks) {
             fiber.next = null;
-            if (last == null) {
-                first = fiber;
+            if (fiber.putting) {
+                if (bound.last == null) {
+                    bound.first = fiber;
+                } else {
+                    bound.last.next = fiber;
+                }
+                bound.last = fiber;
             } else {
-                last.next = fiber;
+                if (last == null) {
+                    first = fiber;
+                } else {
+                    last.next = fiber;
+                }
+                last = fiber;
             }
-            last = fiber;
         }
         if (!Settings.ALONE) {
             lock = 0;

@@ -148,8 +148,8 @@ public final class Run {
 
     /** Loads the classes of the library, so that this isn't done at the end of a stack. */
     private static void load() throws ClassNotFoundException {
-        for (String part : new String[] {"Ended", "Fiber", "Journal", "Journal$Part", "Mailbox", "Pool", "Shapes", "Shapes$Plan", "Sys",
-            "Tasks", "Text", "Unwoven", "Worker"}) {
+        for (String part : new String[] {"Ended", "Fiber", "Journal", "Journal$Part", "Mailbox", "Mailbox$Bound", "Pool", "Shapes",
+            "Shapes$Plan", "Sys", "Tasks", "Text", "Unwoven", "Worker"}) {
             Class.forName("kilim." + part);
         }
     }

@@ -54,7 +54,7 @@ public final class Sys {
         if (fiber.rewinding) {
             fiber.rewinding = false;
         } else {
-            fiber.pause(null);
+            fiber.pause(null, false);
         }
     }
 
