@@ -227,11 +227,12 @@ class Code:
         self.code = source.take(length)
         if length == 0 or length > 65535:
             raise Fault("attribute length Code")
+        self.handlers = []
         for _ in range(source.u2()):
-            source.take(6)
-            index = source.u2()
+            start, end, at, index = source.u2(), source.u2(), source.u2(), source.u2()
             if index != 0:
                 asked(pool, index, {7})
+            self.handlers.append((start, end, at, index))
         attributes(source, pool, "code")
 
 

@@ -65,6 +65,20 @@ class End(Exception):
         self.cause = cause
 
 
+class Raised(Exception):
+    """What an instruction raises: a class, of which an object is made where it is caught; or an object that is thrown."""
+
+    def __init__(self, name, thrown=None):
+        self.name, self.thrown = name, thrown
+
+
+NULL, ZERO = "java/lang/NullPointerException", "java/lang/ArithmeticException"
+SIZE, CAST, STORE = "java/lang/NegativeArraySizeException", "java/lang/ClassCastException", "java/lang/ArrayStoreException"
+INDEX, ARRAY_INDEX = "java/lang/IndexOutOfBoundsException", "java/lang/ArrayIndexOutOfBoundsException"
+TEXT_INDEX = "java/lang/StringIndexOutOfBoundsException"
+
+
+CONSTRUCTORS = {"<init>()V", "<init>(Ljava/lang/String;)V"}
 BUILT_IN = {
     "java/lang/Object": (None, {"<init>()V"}),
     "java/lang/String": ("java/lang/Object", {"length()I", "charAt(I)C", "equals(Ljava/lang/Object;)Z"}),
@@ -75,17 +89,17 @@ BUILT_IN = {
                                            "get()Lkilim/Message;", "getnb()Lkilim/Message;"}),
     "kilim/Sys": ("java/lang/Object", {"print(I)V", "print(J)V", "print(Ljava/lang/String;)V", "yield()V", "argCount()I", "arg(I)I",
                                        "take([Lkilim/Message;I)Lkilim/Message;"}),
-    "java/lang/Throwable": ("java/lang/Object", {"<init>()V"}),
-    "java/lang/Exception": ("java/lang/Throwable", {"<init>()V"}),
-    "java/lang/RuntimeException": ("java/lang/Exception", {"<init>()V"}),
-    "java/lang/NullPointerException": ("java/lang/RuntimeException", {"<init>()V"}),
-    "java/lang/IndexOutOfBoundsException": ("java/lang/RuntimeException", {"<init>()V"}),
-    "java/lang/ArrayIndexOutOfBoundsException": ("java/lang/IndexOutOfBoundsException", {"<init>()V"}),
-    "java/lang/StringIndexOutOfBoundsException": ("java/lang/IndexOutOfBoundsException", {"<init>()V"}),
-    "java/lang/NegativeArraySizeException": ("java/lang/RuntimeException", {"<init>()V"}),
-    "java/lang/ClassCastException": ("java/lang/RuntimeException", {"<init>()V"}),
-    "java/lang/ArrayStoreException": ("java/lang/RuntimeException", {"<init>()V"}),
-    "java/lang/ArithmeticException": ("java/lang/RuntimeException", {"<init>()V"}),
+    "java/lang/Throwable": ("java/lang/Object", {"<init>()V", "<init>(Ljava/lang/String;)V", "getMessage()Ljava/lang/String;"}),
+    "java/lang/Exception": ("java/lang/Throwable", CONSTRUCTORS),
+    "java/lang/RuntimeException": ("java/lang/Exception", CONSTRUCTORS),
+    "java/lang/NullPointerException": ("java/lang/RuntimeException", CONSTRUCTORS),
+    "java/lang/IndexOutOfBoundsException": ("java/lang/RuntimeException", CONSTRUCTORS),
+    "java/lang/ArrayIndexOutOfBoundsException": ("java/lang/IndexOutOfBoundsException", CONSTRUCTORS),
+    "java/lang/StringIndexOutOfBoundsException": ("java/lang/IndexOutOfBoundsException", CONSTRUCTORS),
+    "java/lang/NegativeArraySizeException": ("java/lang/RuntimeException", CONSTRUCTORS),
+    "java/lang/ClassCastException": ("java/lang/RuntimeException", CONSTRUCTORS),
+    "java/lang/ArrayStoreException": ("java/lang/RuntimeException", CONSTRUCTORS),
+    "java/lang/ArithmeticException": ("java/lang/RuntimeException", CONSTRUCTORS),
 }
 
 # with which word a task ends that throws an object of just that class; all others are `thrown`
@@ -102,14 +116,18 @@ WORDS = {
 
 
 class Method:
-    def __init__(self, klass, name, descriptor, static=False, private=False, code=None, pool=None, max_locals=0):
+    def __init__(self, klass, name, descriptor, static=False, private=False, code=None, pool=None, max_locals=0, handlers=()):
         self.klass, self.name, self.descriptor, self.static, self.private = klass, name, descriptor, static, private
         self.signature = text_of(name + descriptor)
-        self.bytes, self.pool, self.max_locals = code, pool, max_locals
+        self.bytes, self.pool, self.max_locals, self.handlers = code, pool, max_locals, handlers
         self.params = params_of(descriptor)
         self.result = text_of(descriptor[descriptor.index(ord(")")) + 1:])
         self.built_in = code is None
         self.decoded = {}
+
+
+# the name and the descriptor of what an exception says
+MESSAGE = (units("message"), units("Ljava/lang/String;"))
 
 
 class Field:
@@ -121,6 +139,11 @@ class Class:
     def __init__(self, name, superclass, interfaces):
         self.name, self.superclass, self.interfaces = name, superclass, interfaces
         self.methods, self.fields, self.statics, self.all_fields = {}, [], {}, []
+
+
+def handlers_of(pool, code):
+    """The rows of an exception table, the class that is caught by its name, or None."""
+    return [(start, end, at, text_of(pool.class_name(catch)) if catch else None) for start, end, at, catch in code.handlers]
 
 
 def params_of(descriptor):
@@ -144,6 +167,7 @@ class Program:
             for signature in signatures:
                 at = signature.index("(")
                 klass.methods[signature] = Method(klass, units(signature[:at]), units(signature[at:]), static=name == "kilim/Sys")
+        self.classes["java/lang/Throwable"].fields.append(Field("java/lang/Throwable", *MESSAGE))
         for data in files:
             self.add(data if isinstance(data, ClassFile) else ClassFile(data))
         for klass in self.classes.values():
@@ -162,7 +186,7 @@ class Program:
         for m in file.methods:
             code = m.attributes.get("Code")
             method = Method(klass, m.name, m.descriptor, m.flags & STATIC != 0, m.flags & PRIVATE != 0,
-                            code.code if code else b"", file.pool, code.max_locals if code else 0)
+                            code.code if code else b"", file.pool, code.max_locals if code else 0, handlers_of(file.pool, code) if code else ())
             klass.methods[method.signature] = method
 
     def line(self, klass):
@@ -308,10 +332,10 @@ def is_large(root):
 
 
 class Frame:
-    __slots__ = ("method", "pc", "locals", "stack")
+    __slots__ = ("method", "pc", "at", "locals", "stack")
 
     def __init__(self, method, args):
-        self.method, self.pc, self.stack, self.locals = method, 0, [], []
+        self.method, self.pc, self.at, self.stack, self.locals = method, 0, 0, [], []
         for a in args:
             self.locals.append(a)
             if isinstance(a, Long):
@@ -344,11 +368,28 @@ class Thread:
                     return ("end", "done")
                 if self.count == self.limit:
                     return ("end", "spent")
-                action = self.step()
+                try:
+                    action = self.step()
+                except Raised as raised:
+                    self.count += 1
+                    self.catch(raised)
+                    continue
                 if action is not None:
                     return action
         except End as end:
             return ("end", end.cause)
+
+    def catch(self, raised):
+        """Goes on at the first row that catches, of the top frame or of one below it, which stands at its call."""
+        while self.frames:
+            frame = self.frames[-1]
+            for start, end, handler, caught in frame.method.handlers:
+                if start <= frame.at < end and (caught is None or self.program.is_below(raised.name, caught)):
+                    frame.stack = [raised.thrown if raised.thrown is not None else Instance(self.program.classes[raised.name])]
+                    frame.pc = handler
+                    return
+            self.frames.pop()
+        raise End(WORDS.get(raised.name, "thrown"))
 
     def answered(self, value=(), counts=True):
         """The action gave a value, or none; its instruction is done."""
@@ -361,7 +402,7 @@ class Thread:
     def step(self):
         frame = self.frames[-1]
         op, a, b, behind = decoded(frame.method, frame.pc)
-        self.behind = behind
+        self.behind, frame.at = behind, frame.pc
         outcome = OPS[op](self, frame, a, b)
         if outcome is None:
             self.count += 1
@@ -509,9 +550,9 @@ def lstore(t, f, a, b):
 def array_and_index(f):
     index, array = f.stack.pop(), f.stack.pop()
     if array is None:
-        raise End("null")
+        raise Raised(NULL)
     if not 0 <= index < len(array.elements):
-        raise End("index")
+        raise Raised(ARRAY_INDEX)
     return array, index
 
 
@@ -528,7 +569,7 @@ def array_store(t, f, a, b):
     element = array.type[1:]
     if element[0] in "L[":
         if value is not None and not t.program.is_a(value, inner(element)):
-            raise End("store")
+            raise Raised(STORE)
     else:
         value = narrowed(element, value)
     array.elements[index] = value
@@ -585,7 +626,7 @@ def two(wrap, f):
 def divided(f):
     def run(x, y):
         if y == 0:
-            raise End("zero")
+            raise Raised(ZERO)
         return f(x, y)
     return run
 
@@ -671,7 +712,7 @@ def getstatic(t, f, a, b):
 
 def held(value):
     if value is None:
-        raise End("null")
+        raise Raised(NULL)
     return value
 
 
@@ -727,13 +768,18 @@ def built_in(t, f, method, args):
     drop(f, len(args))
     if word in ("<init>()V", "execute()V"):
         return None
+    if word == "<init>(Ljava/lang/String;)V":
+        args[0].fields["java/lang/Throwable", MESSAGE[0]] = args[1]
+        return None
     if word == "start()V":
         return ("large",) if is_large(args[0]) else ("start", args[0])
-    if word == "length()I":
+    if word == "getMessage()Ljava/lang/String;":
+        f.stack.append(args[0].fields["java/lang/Throwable", MESSAGE[0]])
+    elif word == "length()I":
         f.stack.append(len(args[0]))
     elif word == "charAt(I)C":
         if not 0 <= args[1] < len(args[0]):
-            raise End("index")
+            raise Raised(TEXT_INDEX)
         f.stack.append(args[0][args[1]])
     elif word.startswith("equals"):
         f.stack.append(int(isinstance(args[1], Text) and args[1] == args[0]))
@@ -747,11 +793,11 @@ def built_in(t, f, method, args):
         f.stack.append(len(t.args))
     elif word == "arg(I)I":
         if not 0 <= args[0] < len(t.args):
-            raise End("index")
+            raise Raised(INDEX)
         f.stack.append(t.args[args[0]])
     else:
         if held(args[0]) is not None and not 0 <= args[1] < len(args[0].elements):
-            raise End("index")
+            raise Raised(ARRAY_INDEX)
         f.stack.append(args[0].elements[args[1]])
         args[0].elements[args[1]] = None
     return None
@@ -761,7 +807,7 @@ def of_mailbox(word, args):
     """The action of a mailbox's method. Whether a message is there, and how large its tree is, is asked before whether the mailbox is full."""
     if word == "<init>(I)V":
         if args[1] < 1:
-            raise End("size")
+            raise Raised(SIZE)
         return ("bound", args[0], args[1])
     if word.startswith("put"):
         if is_large(held(args[1])):
@@ -784,7 +830,7 @@ def new(t, f, a, b):
 def sized(f):
     size = f.stack.pop()
     if size < 0:
-        raise End("size")
+        raise Raised(SIZE)
     if size > LONGEST:
         raise End("large")
     return size
@@ -807,13 +853,14 @@ def arraylength(t, f, a, b):
 
 @op(191)
 def athrow(t, f, a, b):
-    raise End(WORDS.get(type_of(held(f.stack.pop())), "thrown"))
+    thrown = held(f.stack.pop())
+    raise Raised(type_of(thrown), thrown)
 
 
 @op(192)
 def checkcast(t, f, a, b):
     if f.stack[-1] is not None and not t.program.is_a(f.stack[-1], a):
-        raise End("cast")
+        raise Raised(CAST)
 
 
 @op(193)

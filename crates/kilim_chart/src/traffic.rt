@@ -16,6 +16,8 @@ pub struct Traffic {
     pub putter: Option<u32>,
     /// The task that took last.
     pub taker: Option<u32>,
+    /// How many messages it may hold, if it has a bound.
+    pub most: Option<u32>,
 }
 
 const NO_TRAFFIC: Traffic = Traffic {
@@ -23,6 +25,7 @@ const NO_TRAFFIC: Traffic = Traffic {
     takes: 0,
     putter: None,
     taker: None,
+    most: None,
 };
 
 /// The traffic of the mailboxes that a run names, by the task and the number of their names.
@@ -42,6 +45,7 @@ fn behind_put(traffic: Traffic, task: u32) -> Traffic {
         putter: Some(task),
         takes: traffic.takes,
         taker: traffic.taker,
+        most: traffic.most,
     }
 }
 
@@ -51,6 +55,25 @@ fn behind_take(traffic: Traffic, task: u32) -> Traffic {
         taker: Some(task),
         puts: traffic.puts,
         putter: traffic.putter,
+        most: traffic.most,
+    }
+}
+
+fn behind_bound(traffic: Traffic, most: u32) -> Traffic {
+    Traffic {
+        takes: traffic.takes,
+        taker: traffic.taker,
+        puts: traffic.puts,
+        putter: traffic.putter,
+        most: Some(most),
+    }
+}
+
+/// Whether a mailbox holds as many messages as it may: who waits there waits for room.
+pub fn is_full(traffic: Traffic) -> bool {
+    match traffic.most {
+        Some(most) => traffic.takes.saturating_add(most as usize) <= traffic.puts,
+        None => false,
     }
 }
 
@@ -72,6 +95,10 @@ pub fn mailboxes_of(alloc: Global, entries: &[Entry]) -> Result<Mailboxes, NoMem
             }
             Act::Take(name, _) => {
                 let traffic = behind_take(traffic_of(&mailboxes, *name), entry.task);
+                note(&mut mailboxes, *name, traffic)
+            }
+            Act::Bound(name, most) => {
+                let traffic = behind_bound(traffic_of(&mailboxes, *name), *most);
                 note(&mut mailboxes, *name, traffic)
             }
             _ => Ok(()),
@@ -148,11 +175,12 @@ pub fn ended(entries: &[Entry], cause: EndCause) -> usize {
 }
 
 /// Whom a waiting task waits for, as far as the journal tells: who took last from its mailbox, or, where it did that itself or nobody
-/// did, who put last into it.
+/// did, who put last into it. Where it waits for room, nobody but who took last makes any.
 pub fn awaited(mailboxes: &Mailboxes, one: &Waiting) -> Option<u32> {
     let traffic = traffic_of(mailboxes, one.mailbox);
     match traffic.taker {
         Some(taker) if taker != one.task => Some(taker),
+        _ if is_full(traffic) => None,
         _ => match traffic.putter {
             Some(putter) if putter != one.task => Some(putter),
             _ => None,

@@ -2,7 +2,8 @@
 
 use crate::lines::{class_of, line_of};
 use crate::traffic::{
-    Mailboxes, Waiting, awaited, ended, mailboxes_of, note_starts, place_of, traffic_of, waiting_of,
+    Mailboxes, Traffic, Waiting, awaited, ended, is_full, mailboxes_of, note_starts, place_of,
+    traffic_of, waiting_of,
 };
 use kilim_pieces::{Piece, behind, push};
 use kilim_run_journal::Entry;
@@ -75,6 +76,15 @@ fn name_of<'a>(bytes: &'a [u8], starts: &[usize], line: usize) -> &'a [u8] {
     class_of(behind(line_of(bytes, starts, line), 3))
 }
 
+// What a task waits for at a mailbox with that traffic.
+fn awaited_at(traffic: Traffic) -> &'static str {
+    if is_full(traffic) {
+        " waits for room in "
+    } else {
+        " waits at "
+    }
+}
+
 // The line of a waiting task.
 fn push_waiting(
     out: &mut Vec<u8>,
@@ -88,7 +98,7 @@ fn push_waiting(
     push(
         out,
         &[
-            Piece::Text(" waits at "),
+            Piece::Text(awaited_at(traffic)),
             Piece::Number(one.mailbox.task as usize),
             Piece::Text("."),
             Piece::Number(one.mailbox.number as usize),

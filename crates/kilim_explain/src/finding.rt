@@ -2,9 +2,10 @@
 
 use crate::code::{byte_at, length_at, pair_at};
 use crate::methods::{code_of, is_written};
+use kilim_class_attributes::Code;
 use kilim_class_file::{ClassFile, MemberInfo};
 use kilim_class_pool::{Entry, Pool};
-use kilim_link_views::{class_text, text_of};
+use kilim_link_views::{class_text, is_pausable, text_of};
 use kilim_reports::{descriptor_text, member_name_text};
 use kilim_units::{NoMemory, Units, name_text};
 use std::alloc::Global;
@@ -22,6 +23,8 @@ pub enum Wanted<'a> {
     Field(&'a [u16], &'a [u8]),
     /// A method with handlers.
     Handlers,
+    /// A method that pauses and has handlers.
+    PausableHandlers,
 }
 
 // Whether bytes stand somewhere in others.
@@ -167,7 +170,7 @@ fn is_here(
             }
             entry_is_field(alloc, pool, index, class, field)
         }
-        Wanted::Handlers => Ok(false),
+        Wanted::Handlers | Wanted::PausableHandlers => Ok(false),
     }
 }
 
@@ -191,6 +194,14 @@ fn place_in(
     Ok(None)
 }
 
+// Where the range of the first handler begins.
+fn first_handled(code: &Code) -> Option<usize> {
+    match code.exception_table.as_slice().first() {
+        Some(handler) => Some(usize::from(handler.start_pc)),
+        None => None,
+    }
+}
+
 // The place in a method.
 fn place_of(
     alloc: Global,
@@ -202,10 +213,14 @@ fn place_of(
         return Ok(None);
     };
     match wanted {
-        Wanted::Handlers => match code.exception_table.as_slice().first() {
-            Some(handler) => Ok(Some(usize::from(handler.start_pc))),
-            None => Ok(None),
-        },
+        Wanted::Handlers => Ok(first_handled(code)),
+        Wanted::PausableHandlers => {
+            if is_pausable(pool, member) {
+                Ok(first_handled(code))
+            } else {
+                Ok(None)
+            }
+        }
         _ => place_in(alloc, pool, code.code.as_slice(), wanted),
     }
 }

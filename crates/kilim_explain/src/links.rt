@@ -41,8 +41,8 @@ fn wanted_by<'a>(class: &'a [u16], kind: &[u8], name: &'a [u8]) -> Option<Wanted
         b"no-member" => Some(Wanted::Member(name)),
         b"field-kind" => Some(Wanted::Field(class, name)),
         b"left-out" => {
-            if name == b"handlers".as_slice() {
-                return Some(Wanted::Handlers);
+            if name == b"pausable-handlers".as_slice() {
+                return Some(Wanted::PausableHandlers);
             }
             match opcode_in(name) {
                 Some(opcode) => Some(Wanted::Opcode(opcode)),

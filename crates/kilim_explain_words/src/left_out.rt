@@ -56,9 +56,9 @@ fn of_members(word: &[u8]) -> Option<Advice> {
             "a constructor with `throws Pausable`",
             "a static method that pauses first, and then makes the object",
         )),
-        b"handlers" => Some(advise(
-            "`try`, `catch` or `finally`",
-            "nothing: what would throw ends the task (docs/JOURNAL.md)",
+        b"pausable-handlers" => Some(advise(
+            "`try`, `catch` or `finally` in a method with `throws Pausable`",
+            "a method that doesn't pause and catches what may be thrown",
         )),
         _ => None,
     }

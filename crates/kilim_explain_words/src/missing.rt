@@ -64,7 +64,7 @@ pub fn no_member(name: &[u8]) -> Advice {
     }
     if name.starts_with(b"java/lang/") {
         return advise(
-            "an exception has a constructor without arguments, and nothing else",
+            "an exception has constructors without arguments and with a text, getMessage(), and nothing else",
             "a field in a class of your own below it",
         );
     }

@@ -1,14 +1,16 @@
 -- Where a woven fiber comes to rest it has no frame, and what stands apart stays there until it is put.
-use Rattle.std.proofs.Common.{◌≡◌, ap, ◌∙◌, ℕ, ℤ, pos, Bool, true, false, cond, not, List, [], ◌∷◌, Option, Some, None, Result, Ok, Err, refl, subst, ◌+◌, suc}
+use Rattle.std.proofs.Common.{◌≡◌, ap, ◌∙◌, ℕ, ℤ, pos, negsuc, zero, Bool, true, false, cond, not, List, [], ◌∷◌, Option, Some, None, Result, Ok, Err, refl, subst, ◌+◌, suc}
 use Rattle.kilim_fiber_spec.specs.Acts.{Apart}
 use Rattle.std.specs.Prelude.{IfOk, nat_le, nat_lt, ◌&&◌}
 use Rattle.kilim_program.specs.declared.instr.Instr.{Instr}
 use Rattle.kilim_program.specs.declared.names.BoxName.{BoxName}
+use Rattle.kilim_program.specs.declared.names.ClassId.{ClassId}
 use Rattle.kilim_program.specs.declared.names.MethodId.{MethodId}
 use Rattle.kilim_program.specs.declared.value.Value.{Value}
-use Rattle.kilim_program.specs.declared.value.Value.TheVariants.{Int, Ref, Box, Fiber}
+use Rattle.kilim_program.specs.declared.value.Value.TheVariants.{Int, Null, Ref, Box, Fiber}
 use Rattle.kilim_program.specs.Program.{Program}
 use Rattle.kilim_run_state.specs.declared.frames.frames.Frames.{Frames}
+use Rattle.kilim_run_state.specs.declared.cause.EndCause.{EndCause}
 use Rattle.kilim_run_state.specs.declared.cause.EndCause.TheVariants as cause
 use Rattle.kilim_run_state.specs.declared.value.Token.{Token}
 use Rattle.kilim_run_state.specs.Machine.{Activation, Objects}
@@ -17,6 +19,8 @@ use Rattle.kilim_run_machine.specs.Moves.{Move, moves, push_result, push_value}
 use Rattle.kilim_run_machine.specs.Moves as move
 use Rattle.kilim_run_machine.specs.Natives.{Native, FiberMember, Pc, Down, Up, Save, Place, Restore, Receiver, native_of}
 use Rattle.kilim_run_machine.specs.Natives as native
+use Rattle.kilim_run_machine.specs.Raising.{index_at, other_index, raised_class, thrown, unwound}
+use Rattle.kilim_run_state.specs.Objects.{new_object}
 use Rattle.kilim_run_state.specs.Shapes.{shape_of}
 use Rattle.kilim_run_model.specs.Lone.{arg_at, box_limit, printed}
 use Rattle.kilim_run_model.specs.State.{Setting}
@@ -27,7 +31,7 @@ use Rattle.kilim_fiber_body.specs.Reach.{AtFirst, Further, GoesTo, Reaches, name
 use Rattle.kilim_fiber_body.specs.declared.body.Body.{Body}
 use Rattle.kilim_fiber_body.specs.declared.body.Came.{Came}
 use Rattle.kilim_fiber_body.specs.declared.body.Came.TheVariants as came
-use Rattle.kilim_fiber_laws.specs.woven_kin.Nexts.{Next, Goes, Puts, PutWaits, Bounds, Gets, Probes, Starts, Prints, Rests, Ends, Stands, arg_next, asks_next, begins_next, begun_with, found_next, finish_next, get_next, message_next, native_next, next_by, next_in, next_of, opens_next, print_next, put_next, resumes_next, spent_or, start_next, stood, ticked, yield_next, put_wait_next, wait_next, bound_next, PutsAgain, first_wait, putw_next, taken_at, wait_again, waiting_at}
+use Rattle.kilim_fiber_laws.specs.woven_kin.Nexts.{Next, Goes, Puts, PutWaits, Bounds, Gets, Probes, Starts, Prints, Rests, Ends, Stands, arg_next, counted, asks_next, begins_next, begun_with, found_next, finish_next, get_next, message_next, native_next, next_by, next_in, next_of, opens_next, print_next, put_next, raised, raises, resumes_next, thrown_to, with_new, spent_or, start_next, stood, ticked, yield_next, put_wait_next, wait_next, bound_next, PutsAgain, first_wait, putw_next, taken_at, wait_again, waiting_at}
 use Rattle.kilim_fiber_laws.specs.woven_kin.Standing.{Standing}
 use Rattle.kilim_fiber_spec.specs.Fibers.{Fib, Fiber_at, Saved, executes_on, first_receiver, is_pausing, is_rewinding, member_does, wfetch}
 use Rattle.kilim_fiber.specs.Records.{NoFrameIsLeft}
@@ -69,24 +73,37 @@ module _ (set : Setting) (W : Program) (t : ℕ) where
   ticked_none true z = refl
   ticked_none false z = refl
 
+  thrown_none : (z : Standing) (why : EndCause) (left : List Activation) → HasNone z.aside (thrown_to z why left)
+  thrown_none z why [] = tt
+  thrown_none z why (f ∷ fs) = refl
+
+  raises_none : (z : Standing) (why : EndCause) (left : ClassId → List Activation) (o : Option ClassId) → HasNone z.aside (raises W z why left o)
+  raises_none z why left None = tt
+  raises_none z why left (Some c) = thrown_none (with_new z (new_object W c)) why (left c)
+
   module _ (z : Standing) where
+    raised_none : (why : EndCause) → HasNone z.aside (raised W z why)
+    raised_none why = raises_none (counted z) why (λ c. unwound W c (Ref z.next) z.frames) (raised_class W other_index why)
+
     put_none : (box : BoxName) (n : ℕ) (o : Option (List Token)) → HasNone z.aside (put_next z box n o)
     put_none box n None = tt
     put_none box n (Some shape) = refl
 
-    message_none : (box : BoxName) (v : Value) → HasNone z.aside (message_next set.program z box v)
+    message_none : (box : BoxName) (v : Value) → HasNone z.aside (message_next set.program W z box v)
     message_none box (Ref n) = put_none box n (shape_of set.program z.heap n)
+    message_none box Null = raised_none cause.Null
     message_none box _ = tt
 
     put_wait_none : (box : BoxName) (n : ℕ) (o : Option (List Token)) → HasNone z.aside (put_wait_next set.program z box n o)
     put_wait_none box n None = tt
     put_wait_none box n (Some shape) = refl
 
-    wait_none : (box : BoxName) (v : Value) → HasNone z.aside (wait_next set.program z box v)
+    wait_none : (box : BoxName) (v : Value) → HasNone z.aside (wait_next set.program W z box v)
     wait_none box (Ref n) = put_wait_none box n (shape_of set.program z.heap n)
+    wait_none box Null = raised_none cause.Null
     wait_none box _ = tt
 
-    first_none : (v u : Value) → HasNone z.aside (first_wait set.program z v u)
+    first_none : (v u : Value) → HasNone z.aside (first_wait set.program W z v u)
     first_none (Box box) u = wait_none box u
     first_none _ u = tt
 
@@ -94,13 +111,14 @@ module _ (set : Setting) (W : Program) (t : ℕ) where
     again_none (Box box) (k ∷ ks) e = spent_none z.aside true z.done (PutsAgain box k.root k.shape (taken_at (record z { heap = k.heap; aside = ks })) (waiting_at box z) (taken_at (record z { aside = ks }))) (record { kept = k; others = ks; are = e; shape-is = refl; heap-is = refl })
     again_none _ _ e = tt
 
-    putw_none : (again : Bool) (v u : Value) → HasNone z.aside (putw_next set again z v u)
+    putw_none : (again : Bool) (v u : Value) → HasNone z.aside (putw_next set W again z v u)
     putw_none true v u = again_none v z.aside refl
-    putw_none false v u = spent_none z.aside true z.done (first_wait set.program z v u) (first_none v u)
+    putw_none false v u = spent_none z.aside true z.done (first_wait set.program W z v u) (first_none v u)
 
-    bound_none : (box : BoxName) (i : ℤ) → HasNone z.aside (bound_next z box i)
+    bound_none : (box : BoxName) (i : ℤ) → HasNone z.aside (bound_next W z box i)
     bound_none box (pos (suc n)) = refl
-    bound_none box _ = tt
+    bound_none box (pos zero) = raised_none cause.Size
+    bound_none box (negsuc n) = raised_none cause.Size
 
     start_none : (n : ℕ) (o : Option (List Token)) → HasNone z.aside (start_next z n o)
     start_none n None = tt
@@ -110,8 +128,8 @@ module _ (set : Setting) (W : Program) (t : ℕ) where
     print_none None = tt
     print_none (Some token) = refl
 
-    arg_none : (o : Option ℤ) → HasNone z.aside (arg_next z o)
-    arg_none None = tt
+    arg_none : (o : Option ℤ) → HasNone z.aside (arg_next W z o)
+    arg_none None = raised_none cause.Index
     arg_none (Some n) = refl
 
     get_none : (v : Value) → HasNone z.aside (get_next z v)
@@ -136,7 +154,7 @@ module _ (set : Setting) (W : Program) (t : ℕ) where
     member_none Receiver (Fiber ∷ []) (Fiber_at lo r (Saved q x vs ∷ de) re pa) = refl
     member_none _ _ _ = tt
 
-    native_none : (n : Native) (args : List Value) → HasNone z.aside (native_next set z n args)
+    native_none : (n : Native) (args : List Value) → HasNone z.aside (native_next set W z n args)
     native_none native.Execute (Ref n ∷ Fiber ∷ []) = refl
     native_none native.Getnb (Box box ∷ []) = refl
     native_none native.ArgCount [] = refl
@@ -151,7 +169,7 @@ module _ (set : Setting) (W : Program) (t : ℕ) where
     native_none (native.OfFiber member) args = member_none member args z.fiber
     native_none _ _ = tt
 
-    asks_none : (n : Option Native) (args : List Value) → HasNone z.aside (asks_next set z args n)
+    asks_none : (n : Option Native) (args : List Value) → HasNone z.aside (asks_next set W z args n)
     asks_none None args = tt
     asks_none (Some n) args = native_none n args
 
@@ -169,23 +187,31 @@ module _ (set : Setting) (W : Program) (t : ℕ) where
     opens_none counts =
         elim (nat_lt z.boxes box_limit) as (λ (b : Bool). HasNone z.aside (cond b (Goes (ticked counts (record z { frames = push_value (Box (record { task = t; number = z.boxes })) z.frames; boxes = z.boxes + 1 }))) (Ends cause.Boxes))) [ true ↦ ticked_none counts (record z { frames = push_value (Box (record { task = t; number = z.boxes })) z.frames; boxes = z.boxes + 1 }) | false ↦ tt ]
 
-  by_none : (x : Standing) (counts : Bool) (m : Move) → HasNone x.aside (next_by set W t counts x m)
-  by_none x counts (move.Runs change frames heap) = ticked_none counts (stood x frames heap)
-  by_none x counts (move.Makes o frames heap) = ticked_none counts _
-  by_none x counts (move.Opens frames heap) = opens_none (stood x frames heap) counts
-  by_none x counts (move.Asks id args frames heap) = asks_none (stood x frames heap) (native_of W id) args
-  by_none x counts (move.Returns heap) = finish_none (record x { heap = heap }) x.kept
-  by_none x counts (move.Raises why) = tt
-  by_none x counts (move.Throws object class why) = tt
-  by_none x counts (move.Ends why) = tt
-  by_none x counts move.Stuck = tt
+  raises_here : (x : Standing) (counts : Bool) (why : EndCause) (left : ClassId → List Activation) (o : Option ClassId) → HasNone x.aside (raises W (ticked counts x) why left o)
+  raises_here x true why left o = raises_none (counted x) why left o
+  raises_here x false why left o = raises_none x why left o
+
+  thrown_here : (x : Standing) (counts : Bool) (why : EndCause) (left : List Activation) → HasNone x.aside (thrown_to (ticked counts x) why left)
+  thrown_here x true why left = thrown_none (counted x) why left
+  thrown_here x false why left = thrown_none x why left
+
+  by_none : (x : Standing) (counts : Bool) (top : Activation) (below : List Activation) (m : Move) → HasNone x.aside (next_by set W t counts x top below m)
+  by_none x counts top below (move.Runs change frames heap) = ticked_none counts (stood x frames heap)
+  by_none x counts top below (move.Makes o frames heap) = ticked_none counts _
+  by_none x counts top below (move.Opens frames heap) = opens_none (stood x frames heap) counts
+  by_none x counts top below (move.Asks id args frames heap) = asks_none (stood x frames heap) (native_of W id) args
+  by_none x counts top below (move.Returns heap) = finish_none (record x { heap = heap }) x.kept
+  by_none x counts top below (move.Raises why) = raises_here x counts why (λ c. thrown W c (Ref x.next) top below) (raised_class W (index_at W top) why)
+  by_none x counts top below (move.Throws object class why) = thrown_here x counts why (thrown W class (Ref object) top below)
+  by_none x counts top below (move.Ends why) = tt
+  by_none x counts top below move.Stuck = tt
 
   module _ (x : Standing) where
     found_none : (top : Activation) (below : List Activation) (o : Option (Instr × ℕ × Bool)) → HasNone x.aside (found_next set W t x top below o)
     found_none top below None = tt
     found_none top below (Some found) =
         let counts : Bool = found.2 && not (is_rewinding x.fiber) in
-        spent_none x.aside counts x.done (next_by set W t counts x (moves W top below x.heap)) (by_none x counts (moves W top below x.heap))
+        spent_none x.aside counts x.done (next_by set W t counts x top below (moves W top below x.heap)) (by_none x counts top below (moves W top below x.heap))
 
     resumes_none : (o : Option MethodId) → HasNone x.aside (resumes_next W x o)
     resumes_none None = tt

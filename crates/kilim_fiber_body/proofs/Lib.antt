@@ -1,5 +1,6 @@
 pub mod Roots
 pub mod Asking
+mod Raised
 pub mod Reaching
 pub mod Going
 mod Running

@@ -14,7 +14,6 @@ use Rattle.kilim_run_machine.specs.Natives as native
 use Rattle.kilim_run_model.specs.State.{Setting}
 use Rattle.kilim_run_interp.specs.Step.{CallerFits}
 use Rattle.kilim_fiber_spec.specs.Fibers.{Fib, is_rewinding}
-use Rattle.kilim_fiber_spec.specs.fiber_kin.Acts.{is_making}
 use Rattle.kilim_fiber_steps.specs.Marks.{IsMark}
 use Rattle.kilim_fiber_steps.specs.Woven.{AtFirst, ByMember, ByPause, ByReturn, ByRun, FiberRunsTo, HasFiberRun, IsFiberSafe, MemberFits, MemberSteps, YieldSteps, gives_value}
 use Rattle.kilim_fiber_steps.specs.declared.runs.Halted.{Halted}
@@ -23,14 +22,14 @@ use Rattle.kilim_fiber_laws.specs.woven_kin.Standing.{Standing}
 use Rattle.kilim_fiber_laws.specs.woven_kin.Nexts.{Goes, Next, Stands, asks_next, member_next, native_next, next_by, next_of, yield_next}
 use Rattle.kilim_fiber_body.specs.Body.{aside_in, calls_in, standing_at}
 use Rattle.kilim_fiber_body.specs.Comes.{gives_result}
-use Rattle.kilim_fiber_body.specs.Legs.{ComesTo, HasGone}
+use Rattle.kilim_fiber_body.specs.Legs.{ComesTo, ComesToAny, HasGone}
 use Rattle.kilim_fiber_body.specs.Reach as reach
 use Rattle.kilim_fiber_body.specs.Reach.{GoesTo, IsReadyOn}
 use Rattle.kilim_fiber_body.specs.Steps.{HasRoom, MoveFits}
 use Rattle.kilim_fiber_body.specs.declared.body.Body.{Body}
 use Rattle.kilim_fiber_body.proofs.Asking.{member_by, stands_by}
-use Rattle.kilim_fiber_body.proofs.Going.{goes_on, gone_to, next_here, not_both, not_spent}
-use Rattle.kilim_fiber_body.proofs.Reaching.{joined}
+use Rattle.kilim_fiber_body.proofs.Going.{goes_on, gone_to, name_stays, next_here, not_both, not_spent}
+use Rattle.kilim_fiber_body.proofs.Reaching.{joined, stands_never}
 
 caller_by : (W : Program) (fs : List Activation) → HasRoom W fs → CallerFits W fs
 caller_by W [] room = absurd room
@@ -46,9 +45,9 @@ gives_same native.Save gives = absurd (not_both gives refl)
 gives_same native.Place gives = absurd (not_both gives refl)
 
 -- a `yield` that verified code makes has the fiber alone
-yield_args : (set : Setting) (l : Standing) (args : List Value) → (native_next set l native.Yield args ≡ Stands → ⊥) → args ≡ Fiber ∷ []
-yield_args set l (Fiber ∷ []) never = refl
-yield_args set l _ never = absurd (never refl)
+yield_args : (set : Setting) (W : Program) (l : Standing) (args : List Value) → (native_next set W l native.Yield args ≡ Stands → ⊥) → args ≡ Fiber ∷ []
+yield_args set W l (Fiber ∷ []) never = refl
+yield_args set W l _ never = absurd (never refl)
 
 -- while it rewinds nothing counts
 never_counts : (mark r : Bool) → r ≡ true → (mark && not r) ≡ true → ⊥
@@ -60,13 +59,16 @@ module _ (set : Setting) (W : Program) (marks : List (List Bool)) (t : ℕ) wher
   -- ---- from an earlier standing on
 
   comes_later : (first mid : Standing) (next : Next) → GoesTo set W marks t first mid → ComesTo set W marks t mid next → ComesTo set W marks t first next
-  comes_later first mid next goes c = record { mid = c.mid; goes = joined set W marks t first c.mid goes c.goes; free = c.free; is-free = c.is-free; is = c.is }
+  comes_later first mid next goes c = record { mid = c.mid; goes = joined set W marks t first c.mid goes c.goes; is = c.is }
+
+  comes_any_later : (first mid : Standing) (h : Objects) (next : ℕ → Next) → GoesTo set W marks t first mid → ComesToAny set W marks t mid h next → ComesToAny set W marks t first h next
+  comes_any_later first mid h next goes c = record { mid = c.mid; goes = joined set W marks t first c.mid goes c.goes; heap = c.heap; is = c.is }
 
   gone_later : (first l : Standing) (mid : Body) (counts : Bool) (h : Halted) → GoesTo set W marks t first l → HasGone set W marks t l mid counts h → HasGone set W marks t first mid counts h
   gone_later first l mid counts halted.Stops goes r = joined set W marks t first (standing_at 0 mid) goes r
   gone_later first l mid counts halted.Spent goes r = comes_later first l _ goes r
   gone_later first l mid counts halted.NewBox goes r = (r.0, comes_later first l _ goes r.1)
-  gone_later first l mid counts (halted.Asks call) goes r = record { operands = r.operands; can = r.can; comes = comes_later first l _ goes r.comes }
+  gone_later first l mid counts (halted.Asks call) goes r = record { operands = r.operands; can = r.can; comes = comes_any_later first l _ _ goes r.comes }
   gone_later first l mid counts halted.Returned goes r = comes_later first l _ goes r
   gone_later first l mid counts (halted.Ended why) goes r = comes_later first l _ goes r
 
@@ -83,7 +85,7 @@ module _ (set : Setting) (W : Program) (marks : List (List Bool)) (t : ℕ) wher
         next_of set W marks t (at_ n (top ∷ below) k e) ≡ member_next member args (at_ n after z e)
     member_comes n mark top below k e id member args after z is left asks of_fiber =
         next_here set W marks t (with_ e) [] k b.count (not (is_rewinding e)) refl limit all 0 n mark top below k is left
-        ∙ (ap (next_by set W t (mark && not (is_rewinding e)) (at_ n (top ∷ below) k e)) asks ∙ ap (asks_next set (at_ n after z e) args) of_fiber)
+        ∙ (ap (next_by set W t (mark && not (is_rewinding e)) (at_ n (top ∷ below) k e) top below) asks ∙ ap (asks_next set W (at_ n after z e) args) of_fiber)
 
     member_goes : (n : ℕ) (mark : Bool) (top : Activation) (below : List Activation) (k : Objects) (e : Fib) (calls : List Activation) (g : Fib) → IsMark W marks top.method top.place mark → ((mark && not (is_rewinding e)) ≡ true → n < limit) →
         MemberSteps W (moves W top below k) e k calls g → next_of set W marks t (at_ n (top ∷ below) k e) ≡ Goes (at_ n calls k g)
@@ -96,7 +98,11 @@ module _ (set : Setting) (W : Program) (marks : List (List Bool)) (t : ℕ) wher
         ((mark && not (is_rewinding e)) ≡ true → n < limit) → YieldSteps W (moves W top below k) k calls → next_of set W marks t (at_ n (top ∷ below) k e) ≡ yield_next (is_rewinding e) (at_ n calls k e)
     yield_comes n mark top below k e calls is left step =
         next_here set W marks t (with_ e) [] k b.count (not (is_rewinding e)) refl limit all 0 n mark top below k is left
-        ∙ (ap (next_by set W t (mark && not (is_rewinding e)) (at_ n (top ∷ below) k e)) step.asks ∙ ap (asks_next set (at_ n calls k e) (Fiber ∷ [])) step.is)
+        ∙ (ap (next_by set W t (mark && not (is_rewinding e)) (at_ n (top ∷ below) k e) top below) step.asks ∙ ap (asks_next set W (at_ n calls k e) (Fiber ∷ [])) step.is)
+
+    -- one step further, which takes no name
+    stays : (n m : ℕ) (calls after : List Activation) (h k : Objects) (e g : Fib) → GoesTo set W marks t (standing_at 0 b) (at_ n calls h e) → next_of set W marks t (at_ n calls h e) ≡ Goes (at_ m after k g) → GoesTo set W marks t (standing_at 0 b) (at_ m after k g)
+    stays n m calls after h k e g goes next = reach.Further (at_ n calls h e) 0 0 goes (name_stays set W marks t (at_ n calls h e) (at_ m after k g) next refl) next
 
     pub fiber_goes : (n : ℕ) (calls : List Activation) (k : Objects) (g : Fib) → FiberRunsTo W marks limit (calls_in b.frames) b.heap b.records n calls k g → GoesTo set W marks t (standing_at 0 b) (at_ n calls k g)
     fiber_goes n calls k g (AtFirst z same heap fiber) =
@@ -110,14 +116,14 @@ module _ (set : Setting) (W : Program) (marks : List (List Bool)) (t : ℕ) wher
         (subst (λ (d : ℕ). GoesTo set W marks t (at_ m mid x g) (record (at_ n calls k g) { done = d })) e
         (goes_on set W marks t (with_ g) mid x (b.count + m) (not (is_rewinding g)) refl (limit - m) there more calls k (omega (arith, sum, few)) steps))
     fiber_goes n calls k g (ByMember mark top below e runs has left step) =
-        reach.Further (at_ n (top ∷ below) k e) 0 0 (fiber_goes n (top ∷ below) k e runs) (λ end makes. absurd (not_both makes (ap is_making step.asks))) (member_goes n mark top below k e calls g has left step)
+        stays n n (top ∷ below) calls k k e g (fiber_goes n (top ∷ below) k e runs) (member_goes n mark top below k e calls g has left step)
     fiber_goes n calls k g (ByReturn mark top below e runs has again step new) =
-        reach.Further (at_ n (top ∷ below) k e) 0 0 (fiber_goes n (top ∷ below) k e runs) (λ end makes. absurd (not_both makes (ap is_making step.asks)))
+        stays n n (top ∷ below) calls k k e g (fiber_goes n (top ∷ below) k e runs)
         (yield_comes n mark top below k e calls has (λ counts. absurd (never_counts mark (is_rewinding e) again counts)) step
         ∙ (ap (λ (r : Bool). yield_next r (at_ n calls k e)) again ∙ ap (λ (z : Fib). Goes (at_ n calls k z)) (sym new)))
     fiber_goes n calls k g (ByPause m mark top below e runs has lives step new sum few) =
         let d : b.count + m + 1 ≡ b.count + n = omega (arith, sum) in
-        reach.Further (at_ m (top ∷ below) k e) 0 0 (fiber_goes m (top ∷ below) k e runs) (λ end makes. absurd (not_both makes (ap is_making step.asks)))
+        stays m n (top ∷ below) calls k k e g (fiber_goes m (top ∷ below) k e runs)
         (yield_comes m mark top below k e calls has (λ counts. omega (arith, sum, few)) step
         ∙ (ap (λ (r : Bool). yield_next r (at_ m calls k e)) lives ∙ (λ i. Goes (record (at_ m calls k (sym new i)) { done = d i }))))
 
@@ -127,14 +133,14 @@ module _ (set : Setting) (W : Program) (marks : List (List Bool)) (t : ℕ) wher
         IsMark W marks top.method top.place mark → ((mark && not (is_rewinding g)) ≡ true → n < limit) → (w : Move) → moves W top below k ≡ w → MoveFits set.program W k w → MemberFits W g w
     fits_by n mark top below k g ready goes is left (move.Asks id args frames heap) e fits = record {
       member = λ member of_fiber. (
-        λ none. (ready (at_ n (top ∷ below) k g) goes).never 0 (λ end makes. absurd (not_both makes (ap is_making e)))
+        λ none. stands_never set W marks t (standing_at 0 b) (at_ n (top ∷ below) k g) (ready (at_ n (top ∷ below) k g) goes) 0
             (member_comes n mark top below k g id member args frames heap is left e of_fiber ∙ stands_by member args (at_ n frames heap g) none),
         λ gives. caller_by W frames (fits.0 (ap gives_result of_fiber ∙ gives_same member gives)),
       );
-      yield = λ yields. yield_args set (at_ n frames heap g) args
-          (λ none. (ready (at_ n (top ∷ below) k g) goes).never 0 (λ end makes. absurd (not_both makes (ap is_making e)))
+      yield = λ yields. yield_args set W (at_ n frames heap g) args
+          (λ none. stands_never set W marks t (standing_at 0 b) (at_ n (top ∷ below) k g) (ready (at_ n (top ∷ below) k g) goes) 0
           (next_here set W marks t (with_ g) [] k b.count (not (is_rewinding g)) refl limit all 0 n mark top below k is left
-          ∙ (ap (next_by set W t (mark && not (is_rewinding g)) (at_ n (top ∷ below) k g)) e ∙ (ap (asks_next set (at_ n frames heap g) args) yields ∙ none))));
+          ∙ (ap (next_by set W t (mark && not (is_rewinding g)) (at_ n (top ∷ below) k g) top below) e ∙ (ap (asks_next set W (at_ n frames heap g) args) yields ∙ none))));
     }
     fits_by n mark top below k g ready goes is left (move.Runs change frames heap) e fits = tt
     fits_by n mark top below k g ready goes is left (move.Makes object frames heap) e fits = tt

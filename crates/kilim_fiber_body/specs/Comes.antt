@@ -1,5 +1,6 @@
 -- What a body comes to, against what a woven fiber does next.
 use Rattle.std.specs.Prelude.{◌≡◌, ◌⊎◌, ◌≤◌, ◌+◌, ℕ, Bool, true, false, List, [], ◌∷◌, Option, Some, None}
+use Rattle.std.specs.FinMap.{get}
 use Rattle.std.specs.List.{AllByRecursion}
 use Rattle.kilim_program.specs.Program.{Program}
 use Rattle.kilim_program.specs.declared.names.BoxName.{BoxName}
@@ -16,6 +17,7 @@ use Rattle.kilim_run_model.specs.Kept.{given}
 use Rattle.kilim_run_model.specs.State.{Setting}
 use Rattle.kilim_run_state.specs.declared.run.Limits.{Limits}
 use Rattle.kilim_fiber_laws.specs.woven_kin.Standing.{Standing}
+use Rattle.kilim_fiber_laws.specs.woven_kin.Alike.{TakesName}
 use Rattle.kilim_fiber_steps.specs.declared.records.natives.natives.Native as declared_native
 use Rattle.kilim_fiber_steps.specs.declared.records.natives.natives.Native.TheVariants as code
 use Rattle.kilim_run_trees.specs.Room.{RoomFor}
@@ -81,6 +83,13 @@ Comes x next new (came.Prints shape) = (token : Token) × (shape ≡ token ∷ [
 Comes x next new came.Rests = next ≡ Rests (standing_at x new)
 Comes x next new (came.Ends why) = next ≡ Ends why
 
+-- It does what comes next under some name, which is free in this heap where a new object takes it, and comes to this body.
+pub record ComesBy (h : Objects) (next : ℕ → Next) (new : Body) (c : Came) : Type 0 where
+  pub name : ℕ
+  pub free : TakesName name (next name) → get h name ≡ None
+  pub after : ℕ
+  pub comes : Comes after (next name) new c
+
 -- ---- built-in methods
 
 -- one that has a result
@@ -107,14 +116,14 @@ IsGivenBy p heap (Ref m) = CanGive p heap m
 IsGivenBy p heap v = Unit {0}
 
 -- It is a call that verified code makes: in a setting with these limits it isn't where no such code comes.
-pub record IsMade (limits : Limits) (l : Standing) (args : List Value) (n : Option Native) : Type 0 where
+pub record IsMade (W : Program) (limits : Limits) (l : Standing) (args : List Value) (n : Option Native) : Type 0 where
   pub set : Setting
   pub is-limits : set.limits ≡ limits
-  pub never : asks_next set l args n ≡ Stands → ⊥
+  pub never : asks_next set W l args n ≡ Stands → ⊥
 
 -- What is known where a built-in method is called: p is the program that was woven, W the woven one.
 pub record CanAsk (p W : Program) (limits : Limits) (n : Option Native) (args : List Value) (b : Body) : Type 0 where
-  pub made : IsMade limits (behind_at 0 b) args n
+  pub made : IsMade W limits (behind_at 0 b) args n
   pub room : gives_result n ≡ true → RoomIn W b.frames
   pub gives : (root : Root) (m : ℕ) → given n args ≡ Some (root, m) → CanGive p b.heap m
 

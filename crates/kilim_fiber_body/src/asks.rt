@@ -5,13 +5,17 @@ ghost use Rattle.kilim_program.specs.declared.value.Value.TheVariants as a_value
 ghost use Rattle.kilim_run_machine.specs.Natives as a_native;
 ghost use Rattle.kilim_program.specs.Program.{Program as AProgram};
 ghost use Rattle.kilim_run_machine.specs.Natives.{native_of};
+ghost use Rattle.kilim_run_state.specs.frames.Calls.{answered};
 ghost use Rattle.kilim_run_state.specs.Shapes.{shape_of};
+ghost use Rattle.kilim_run_machine.specs.Raising.{other_index, raised_class, unwound};
+ghost use Rattle.kilim_run_interp.specs.Catching.{IsRaised};
+ghost use Rattle.kilim_run_interp.specs.Step.{AreRoomy};
 ghost use Rattle.kilim_run_model.specs.State.{Setting};
 ghost use Rattle.kilim_run_model.specs.Lone.{narrowed, arg_at, printed};
-ghost use Rattle.kilim_fiber_laws.specs.woven_kin.Nexts.{Goes, Stands, counted, with_result, arg_next, bound_next, get_next, print_next, put_next, put_wait_next, putw_next, message_next, start_next, wait_again, wait_next, native_next, asks_next, yield_next, spent_or};
+ghost use Rattle.kilim_fiber_laws.specs.woven_kin.Nexts.{Goes, Stands, counted, with_result, arg_next, bound_next, get_next, print_next, put_next, put_wait_next, putw_next, message_next, raised, start_next, wait_again, wait_next, native_next, asks_next, yield_next, spent_or};
 ghost use Rattle.kilim_fiber_spec.specs.Fibers.{is_rewinding};
 ghost use Rattle.kilim_fiber_body.specs.Body.{aside_in, standing_at, behind_at, operands_in, RoomyIn, RoomIn, HasFrames, HasOperands};
-ghost use Rattle.kilim_fiber_body.specs.Comes.{CanGive, IsGivenBy, IsMade, CanAsk, Comes, HasRoomFor, IsNear, is_other};
+ghost use Rattle.kilim_fiber_body.specs.Comes.{CanGive, IsGivenBy, IsMade, CanAsk, Comes, ComesBy, HasRoomFor, IsNear, is_other};
 ghost use Rattle.kilim_fiber_body.specs.Operands.{AreCopies};
 ghost use Rattle.kilim_fiber_steps.specs.records.natives.Natives.{meaning};
 
@@ -23,7 +27,9 @@ use crate::operands::{Operands, copy_operands};
 use crate::pass::{give, pass};
 use kilim_fiber_steps::records::natives::Native;
 use kilim_program::{BoxName, MethodId, Program, Value};
-use kilim_run_state::{EndCause, Limits, Shape, Token};
+use kilim_run_interp::{raise_behind, raised_class};
+use kilim_run_state::frames::Frames;
+use kilim_run_state::{EndCause, Heap, Limits, Shape, Token};
 use kilim_units::{NoMemory, Seq, unmet};
 use std::alloc::Global;
 use std::mem::replace;
@@ -92,22 +98,78 @@ fn arg_at(args: &Seq<i32>, index: &i32) -> Option<i32>
     }
 }
 
+// What is raised by a built-in method that was handed out goes to the frame that catches it, as a new object: its name.
+fn raise_past(
+    alloc: Global,
+    program: &Program,
+    cause: EndCause,
+    frames: &mut Frames,
+    heap: &mut Heap,
+) -> Result<Option<u32>, NoMemory>
+    requires { AreRoomy program.now frames.old }
+    ensures roomy { OnOk result (AreRoomy program.now frames.new) }
+    ensures raised { IfOk result (λ name. IsRaised program.now (raised_class program.now other_index cause) (λ c v. unwound program.now c v (answered frames.old)) name frames.new heap.old heap.new) }
+{
+    let Ok(class) = raised_class(program, b"java/lang/IndexOutOfBoundsException", cause) else {
+        return Err(NoMemory);
+    };
+    raise_behind(alloc, program, class, frames, heap)
+}
+
+// It goes on at the handler of what a built-in method that was handed out raises, or ends.
+fn raise_called(
+    alloc: Global,
+    program: &Program,
+    cause: EndCause,
+    body: &mut Body,
+) -> Result<Came, NoMemory>
+    requires frames { HasFrames body.old.frames }
+    requires roomy { RoomyIn program.now body.old.frames }
+    requires counts { body.old.count + 1 < 2 ^ 64 }
+    ensures comes { IfOk result (λ came. ComesBy body.old.heap (λ x. raised program.now (behind_at x body.old) cause) body.new came) }
+    ensures roomy { OnOk result (RoomyIn program.now body.new.frames) }
+    ensures counted { OnOk result (IsNear body.old.count body.new.count) }
+    ensures room { IfOk result (λ came. HasRoomFor program.now body.new came) }
+{
+    let Some(frames) = &mut body.frames else {
+        unreachable!()
+    };
+    let Ok(caught) = raise_past(alloc, program, cause, frames, &mut body.heap) else {
+        return Err(NoMemory);
+    };
+    match caught {
+        Some(name) => {
+            let _name = name;
+            body.count += 1;
+            Ok(Came::On)
+        }
+        None => Ok(Came::Ends(cause)),
+    }
+}
+
 // `arg`
-fn arg(program: &Program, limits: &Limits, index: &i32, body: &mut Body) -> Came
+fn arg(
+    alloc: Global,
+    program: &Program,
+    limits: &Limits,
+    index: &i32,
+    body: &mut Body,
+) -> Result<Came, NoMemory>
+    requires frames { HasFrames body.old.frames }
     requires roomy { RoomyIn program.now body.old.frames }
     requires room { RoomIn program.now body.old.frames }
     requires counts { body.old.count + 1 < 2 ^ 64 }
-    ensures comes { Comes 0 (arg_next (behind_at 0 body.old) (arg_at limits.now.args index.now)) body.new result }
-    ensures roomy { RoomyIn program.now body.new.frames }
-    ensures counted { IsNear body.old.count body.new.count }
-    ensures room { HasRoomFor program.now body.new result }
+    ensures comes { IfOk result (λ came. ComesBy body.old.heap (λ x. arg_next program.now (behind_at x body.old) (arg_at limits.now.args index.now)) body.new came) }
+    ensures roomy { OnOk result (RoomyIn program.now body.new.frames) }
+    ensures counted { OnOk result (IsNear body.old.count body.new.count) }
+    ensures room { IfOk result (λ came. HasRoomFor program.now body.new came) }
 {
     match arg_at(&limits.args, index) {
         Some(number) => {
             go_on_with(program, body, Value::Int(number));
-            Came::On
+            Ok(Came::On)
         }
-        None => Came::Ends(EndCause::Index),
+        None => raise_called(alloc, program, EndCause::Index, body),
     }
 }
 
@@ -188,15 +250,16 @@ fn put(
 ) -> Result<Came, NoMemory>
     requires frames { HasFrames body.old.frames }
     requires roomy { RoomyIn program.now body.old.frames }
-    requires made { (p : AProgram) × (message_next p (behind_at 0 body.old) mailbox message.now ≡ Stands → ⊥) }
+    requires counts { body.old.count + 1 < 2 ^ 64 }
+    requires made { (p : AProgram) × (message_next p program.now (behind_at 0 body.old) mailbox message.now ≡ Stands → ⊥) }
     requires gives { IsGivenBy plain.now body.old.heap message.now }
-    ensures comes { IfOk result (λ came. Comes 0 (message_next plain.now (behind_at 0 body.old) mailbox message.now) body.new came) }
+    ensures comes { IfOk result (λ came. ComesBy body.old.heap (λ x. message_next plain.now program.now (behind_at x body.old) mailbox message.now) body.new came) }
     ensures roomy { OnOk result (RoomyIn program.now body.new.frames) }
     ensures counted { OnOk result (IsNear body.old.count body.new.count) }
     ensures room { IfOk result (λ came. HasRoomFor program.now body.new came) }
 {
     match message {
-        Value::Null => Ok(Came::Ends(EndCause::Null)),
+        Value::Null => raise_called(alloc, program, EndCause::Null, body),
         Value::Ref(root) => put_tree(alloc, plain, program, mailbox, *root, body),
         _ => unreachable!(),
     }
@@ -237,15 +300,16 @@ fn put_wait(
 ) -> Result<Came, NoMemory>
     requires frames { HasFrames body.old.frames }
     requires roomy { RoomyIn program.now body.old.frames }
-    requires made { (p : AProgram) × (wait_next p (behind_at 0 body.old) mailbox message.now ≡ Stands → ⊥) }
+    requires counts { body.old.count + 1 < 2 ^ 64 }
+    requires made { (p : AProgram) × (wait_next p program.now (behind_at 0 body.old) mailbox message.now ≡ Stands → ⊥) }
     requires gives { IsGivenBy plain.now body.old.heap message.now }
-    ensures comes { IfOk result (λ came. Comes 0 (wait_next plain.now (behind_at 0 body.old) mailbox message.now) body.new came) }
+    ensures comes { IfOk result (λ came. ComesBy body.old.heap (λ x. wait_next plain.now program.now (behind_at x body.old) mailbox message.now) body.new came) }
     ensures roomy { OnOk result (RoomyIn program.now body.new.frames) }
     ensures counted { OnOk result (IsNear body.old.count body.new.count) }
     ensures room { IfOk result (λ came. HasRoomFor program.now body.new came) }
 {
     match message {
-        Value::Null => Ok(Came::Ends(EndCause::Null)),
+        Value::Null => raise_called(alloc, program, EndCause::Null, body),
         Value::Ref(root) => put_wait_tree(alloc, plain, program, mailbox, *root, body),
         _ => unreachable!(),
     }
@@ -285,9 +349,10 @@ fn put_first(
 ) -> Result<Came, NoMemory>
     requires frames { HasFrames body.old.frames }
     requires roomy { RoomyIn program.now body.old.frames }
+    requires counts { body.old.count + 1 < 2 ^ 64 }
     requires forward { is_rewinding body.old.records ≡ false }
     requires can { CanAsk plain.now program.now limits.now (Some a_native.PutWait) (receiver.now ∷ message.now ∷ a_value.Fiber ∷ []) body.old }
-    ensures comes { (set : Setting) → set.program ≡ plain.now → set.limits ≡ limits.now → IfOk result (λ came. Comes 0 (putw_next set (is_rewinding body.old.records) (behind_at 0 body.old) receiver.now message.now) body.new came) }
+    ensures comes { (set : Setting) → set.program ≡ plain.now → set.limits ≡ limits.now → IfOk result (λ came. ComesBy body.old.heap (λ x. putw_next set program.now (is_rewinding body.old.records) (behind_at x body.old) receiver.now message.now) body.new came) }
     ensures roomy { OnOk result (RoomyIn program.now body.new.frames) }
     ensures counted { OnOk result (IsNear body.old.count body.new.count) }
     ensures room { IfOk result (λ came. HasRoomFor program.now body.new came) }
@@ -313,8 +378,9 @@ fn put_or_wait(
 ) -> Result<Came, NoMemory>
     requires frames { HasFrames body.old.frames }
     requires roomy { RoomyIn program.now body.old.frames }
+    requires counts { body.old.count + 1 < 2 ^ 64 }
     requires can { CanAsk plain.now program.now limits.now (Some a_native.PutWait) (receiver.now ∷ message.now ∷ a_value.Fiber ∷ []) body.old }
-    ensures comes { (set : Setting) → set.program ≡ plain.now → set.limits ≡ limits.now → IfOk result (λ came. Comes 0 (putw_next set (is_rewinding body.old.records) (behind_at 0 body.old) receiver.now message.now) body.new came) }
+    ensures comes { (set : Setting) → set.program ≡ plain.now → set.limits ≡ limits.now → IfOk result (λ came. ComesBy body.old.heap (λ x. putw_next set program.now (is_rewinding body.old.records) (behind_at x body.old) receiver.now message.now) body.new came) }
     ensures roomy { OnOk result (RoomyIn program.now body.new.frames) }
     ensures counted { OnOk result (IsNear body.old.count body.new.count) }
     ensures room { IfOk result (λ came. HasRoomFor program.now body.new came) }
@@ -329,15 +395,25 @@ fn put_or_wait(
 }
 
 // `Mailbox(int)`: a bound is one or more.
-fn bound(mailbox: BoxName, most: &i32, body: &Body) -> Came
-    ensures comes { Comes 0 (bound_next (behind_at 0 body.now) mailbox most.now) body.now result }
-    ensures room { (program : AProgram) → HasFrames body.now.frames → HasRoomFor program body.now result }
+fn bound(
+    alloc: Global,
+    program: &Program,
+    mailbox: BoxName,
+    most: &i32,
+    body: &mut Body,
+) -> Result<Came, NoMemory>
+    requires frames { HasFrames body.old.frames }
+    requires roomy { RoomyIn program.now body.old.frames }
+    requires counts { body.old.count + 1 < 2 ^ 64 }
+    ensures comes { IfOk result (λ came. ComesBy body.old.heap (λ x. bound_next program.now (behind_at x body.old) mailbox most.now) body.new came) }
+    ensures roomy { OnOk result (RoomyIn program.now body.new.frames) }
+    ensures counted { OnOk result (IsNear body.old.count body.new.count) }
+    ensures room { IfOk result (λ came. HasRoomFor program.now body.new came) }
 {
-    let _ = body;
     match u32::try_from(*most) {
-        Ok(0) => Came::Ends(EndCause::Size),
-        Ok(number) => Came::Bounds(mailbox, number),
-        Err(_) => Came::Ends(EndCause::Size),
+        Ok(0) => raise_called(alloc, program, EndCause::Size, body),
+        Ok(number) => Ok(Came::Bounds(mailbox, number)),
+        Err(_) => raise_called(alloc, program, EndCause::Size, body),
     }
 }
 
@@ -397,7 +473,7 @@ fn ask_of_none(
     requires counts { body.old.count + 1 < 2 ^ 64 }
     requires other { is_other native ≡ true }
     requires can { CanAsk plain.now program.now limits.now (Some (meaning native)) [] body.old }
-    ensures comes { (set : Setting) → set.program ≡ plain.now → set.limits ≡ limits.now → IfOk result (λ came. Comes 0 (native_next set (behind_at 0 body.old) (meaning native) []) body.new came) }
+    ensures comes { (set : Setting) → set.program ≡ plain.now → set.limits ≡ limits.now → IfOk result (λ came. Comes 0 (native_next set program.now (behind_at 0 body.old) (meaning native) []) body.new came) }
     ensures roomy { OnOk result (RoomyIn program.now body.new.frames) }
     ensures counted { OnOk result (IsNear body.old.count body.new.count) }
     ensures room { IfOk result (λ came. HasRoomFor program.now body.new came) }
@@ -422,7 +498,7 @@ fn ask_of_fiber(
     requires counts { body.old.count + 1 < 2 ^ 64 }
     requires other { is_other native ≡ true }
     requires can { CanAsk plain.now program.now limits.now (Some (meaning native)) (a_value.Fiber ∷ []) body.old }
-    ensures comes { (set : Setting) → set.program ≡ plain.now → IfOk result (λ came. Comes 0 (native_next set (behind_at 0 body.old) (meaning native) (a_value.Fiber ∷ [])) body.new came) }
+    ensures comes { (set : Setting) → set.program ≡ plain.now → IfOk result (λ came. Comes 0 (native_next set program.now (behind_at 0 body.old) (meaning native) (a_value.Fiber ∷ [])) body.new came) }
     ensures roomy { OnOk result (RoomyIn program.now body.new.frames) }
     ensures counted { OnOk result (IsNear body.old.count body.new.count) }
     ensures room { IfOk result (λ came. HasRoomFor program.now body.new came) }
@@ -449,7 +525,7 @@ fn ask_of_one(
     requires unlike { value.now ≡ a_value.Fiber → ⊥ }
     requires other { is_other native ≡ true }
     requires can { CanAsk plain.now program.now limits.now (Some (meaning native)) (value.now ∷ []) body.old }
-    ensures comes { (set : Setting) → set.program ≡ plain.now → set.limits ≡ limits.now → IfOk result (λ came. Comes 0 (native_next set (behind_at 0 body.old) (meaning native) (value.now ∷ [])) body.new came) }
+    ensures comes { (set : Setting) → set.program ≡ plain.now → set.limits ≡ limits.now → IfOk result (λ came. ComesBy body.old.heap (λ x. native_next set program.now (behind_at x body.old) (meaning native) (value.now ∷ [])) body.new came) }
     ensures roomy { OnOk result (RoomyIn program.now body.new.frames) }
     ensures counted { OnOk result (IsNear body.old.count body.new.count) }
     ensures room { IfOk result (λ came. HasRoomFor program.now body.new came) }
@@ -465,7 +541,7 @@ fn ask_of_one(
         },
         Native::Print => print(alloc, program, value, body),
         Native::Arg => match value {
-            Value::Int(index) => Ok(arg(program, limits, index, body)),
+            Value::Int(index) => arg(alloc, program, limits, index, body),
             _ => unreachable!(),
         },
         _ => unreachable!(),
@@ -486,7 +562,7 @@ fn ask_with_fiber(
     requires counts { body.old.count + 1 < 2 ^ 64 }
     requires other { is_other native ≡ true }
     requires can { CanAsk plain.now program.now limits.now (Some (meaning native)) (value.now ∷ a_value.Fiber ∷ []) body.old }
-    ensures comes { (set : Setting) → set.program ≡ plain.now → set.limits ≡ limits.now → IfOk result (λ came. Comes 0 (native_next set (behind_at 0 body.old) (meaning native) (value.now ∷ a_value.Fiber ∷ [])) body.new came) }
+    ensures comes { (set : Setting) → set.program ≡ plain.now → set.limits ≡ limits.now → IfOk result (λ came. Comes 0 (native_next set program.now (behind_at 0 body.old) (meaning native) (value.now ∷ a_value.Fiber ∷ [])) body.new came) }
     ensures roomy { OnOk result (RoomyIn program.now body.new.frames) }
     ensures counted { OnOk result (IsNear body.old.count body.new.count) }
     ensures room { IfOk result (λ came. HasRoomFor program.now body.new came) }
@@ -504,7 +580,7 @@ fn ask_with_fiber(
 // `get`: a task that has done its instructions takes nothing any more.
 fn takes(program: &Program, limits: &Limits, value: &Value, body: &Body) -> Came
     requires room { RoomIn program.now body.now.frames }
-    requires made { IsMade limits.now (behind_at 0 body.now) (value.now ∷ a_value.Fiber ∷ []) (Some a_native.Get) }
+    requires made { IsMade program.now limits.now (behind_at 0 body.now) (value.now ∷ a_value.Fiber ∷ []) (Some a_native.Get) }
     ensures comes { (set : Setting) → set.limits ≡ limits.now → Comes 0 (spent_or set true body.now.count (get_next (behind_at 0 body.now) value.now)) body.now result }
     ensures room { HasRoomFor program.now body.now result }
 {
@@ -535,7 +611,7 @@ fn ask_of_two(
     requires other { is_other native ≡ true }
     requires unlike { second.now ≡ a_value.Fiber → ⊥ }
     requires can { CanAsk plain.now program.now limits.now (Some (meaning native)) (first.now ∷ second.now ∷ []) body.old }
-    ensures comes { (set : Setting) → set.program ≡ plain.now → IfOk result (λ came. Comes 0 (native_next set (behind_at 0 body.old) (meaning native) (first.now ∷ second.now ∷ [])) body.new came) }
+    ensures comes { (set : Setting) → set.program ≡ plain.now → IfOk result (λ came. ComesBy body.old.heap (λ x. native_next set program.now (behind_at x body.old) (meaning native) (first.now ∷ second.now ∷ [])) body.new came) }
     ensures roomy { OnOk result (RoomyIn program.now body.new.frames) }
     ensures counted { OnOk result (IsNear body.old.count body.new.count) }
     ensures room { IfOk result (λ came. HasRoomFor program.now body.new came) }
@@ -546,7 +622,7 @@ fn ask_of_two(
             _ => unreachable!(),
         },
         Native::Bound => match (first, second) {
-            (Value::Box(mailbox), Value::Int(most)) => Ok(bound(*mailbox, most, body)),
+            (Value::Box(mailbox), Value::Int(most)) => bound(alloc, program, *mailbox, most, body),
             _ => unreachable!(),
         },
         _ => unreachable!(),
@@ -567,9 +643,10 @@ fn ask_of_three(
 ) -> Result<Came, NoMemory>
     requires frames { HasFrames body.old.frames }
     requires roomy { RoomyIn program.now body.old.frames }
+    requires counts { body.old.count + 1 < 2 ^ 64 }
     requires other { is_other native ≡ true }
     requires can { CanAsk plain.now program.now limits.now (Some (meaning native)) (first.now ∷ second.now ∷ third.now ∷ []) body.old }
-    ensures comes { (set : Setting) → set.program ≡ plain.now → set.limits ≡ limits.now → IfOk result (λ came. Comes 0 (native_next set (behind_at 0 body.old) (meaning native) (first.now ∷ second.now ∷ third.now ∷ [])) body.new came) }
+    ensures comes { (set : Setting) → set.program ≡ plain.now → set.limits ≡ limits.now → IfOk result (λ came. ComesBy body.old.heap (λ x. native_next set program.now (behind_at x body.old) (meaning native) (first.now ∷ second.now ∷ third.now ∷ [])) body.new came) }
     ensures roomy { OnOk result (RoomyIn program.now body.new.frames) }
     ensures counted { OnOk result (IsNear body.old.count body.new.count) }
     ensures room { IfOk result (λ came. HasRoomFor program.now body.new came) }
@@ -598,7 +675,7 @@ fn ask_of_any_one(
     requires counts { body.old.count + 1 < 2 ^ 64 }
     requires other { is_other native ≡ true }
     requires can { CanAsk plain.now program.now limits.now (Some (meaning native)) (value.now ∷ []) body.old }
-    ensures comes { (set : Setting) → set.program ≡ plain.now → set.limits ≡ limits.now → IfOk result (λ came. Comes 0 (native_next set (behind_at 0 body.old) (meaning native) (value.now ∷ [])) body.new came) }
+    ensures comes { (set : Setting) → set.program ≡ plain.now → set.limits ≡ limits.now → IfOk result (λ came. ComesBy body.old.heap (λ x. native_next set program.now (behind_at x body.old) (meaning native) (value.now ∷ [])) body.new came) }
     ensures roomy { OnOk result (RoomyIn program.now body.new.frames) }
     ensures counted { OnOk result (IsNear body.old.count body.new.count) }
     ensures room { IfOk result (λ came. HasRoomFor program.now body.new came) }
@@ -625,7 +702,7 @@ fn ask_of_any_two(
     requires counts { body.old.count + 1 < 2 ^ 64 }
     requires other { is_other native ≡ true }
     requires can { CanAsk plain.now program.now limits.now (Some (meaning native)) (first.now ∷ second.now ∷ []) body.old }
-    ensures comes { (set : Setting) → set.program ≡ plain.now → set.limits ≡ limits.now → IfOk result (λ came. Comes 0 (native_next set (behind_at 0 body.old) (meaning native) (first.now ∷ second.now ∷ [])) body.new came) }
+    ensures comes { (set : Setting) → set.program ≡ plain.now → set.limits ≡ limits.now → IfOk result (λ came. ComesBy body.old.heap (λ x. native_next set program.now (behind_at x body.old) (meaning native) (first.now ∷ second.now ∷ [])) body.new came) }
     ensures roomy { OnOk result (RoomyIn program.now body.new.frames) }
     ensures counted { OnOk result (IsNear body.old.count body.new.count) }
     ensures room { IfOk result (λ came. HasRoomFor program.now body.new came) }
@@ -652,7 +729,7 @@ fn ask_with(
     requires counts { body.old.count + 1 < 2 ^ 64 }
     requires other { is_other native ≡ true }
     requires can { CanAsk plain.now program.now limits.now (Some (meaning native)) (operands_in body.old.frames) body.old }
-    ensures comes { (set : Setting) → set.program ≡ plain.now → set.limits ≡ limits.now → IfOk result (λ came. Comes 0 (native_next set (behind_at 0 body.old) (meaning native) (operands_in body.old.frames)) body.new came) }
+    ensures comes { (set : Setting) → set.program ≡ plain.now → set.limits ≡ limits.now → IfOk result (λ came. ComesBy body.old.heap (λ x. native_next set program.now (behind_at x body.old) (meaning native) (operands_in body.old.frames)) body.new came) }
     ensures roomy { OnOk result (RoomyIn program.now body.new.frames) }
     ensures counted { OnOk result (IsNear body.old.count body.new.count) }
     ensures room { IfOk result (λ came. HasRoomFor program.now body.new came) }
@@ -685,7 +762,7 @@ fn ask_other(
     requires counts { body.old.count + 1 < 2 ^ 64 }
     requires other { is_other native ≡ true }
     requires can { CanAsk plain.now program.now limits.now (Some (meaning native)) (operands_in body.old.frames) body.old }
-    ensures comes { (set : Setting) → set.program ≡ plain.now → set.limits ≡ limits.now → IfOk result (λ came. Comes 0 (native_next set (behind_at 0 body.old) (meaning native) (operands_in body.old.frames)) body.new came) }
+    ensures comes { (set : Setting) → set.program ≡ plain.now → set.limits ≡ limits.now → IfOk result (λ came. ComesBy body.old.heap (λ x. native_next set program.now (behind_at x body.old) (meaning native) (operands_in body.old.frames)) body.new came) }
     ensures roomy { OnOk result (RoomyIn program.now body.new.frames) }
     ensures counted { OnOk result (IsNear body.old.count body.new.count) }
     ensures room { IfOk result (λ came. HasRoomFor program.now body.new came) }
@@ -714,7 +791,7 @@ pub fn ask(
     requires roomy { RoomyIn code.now.program body.old.frames }
     requires counts { body.old.count + 1 < 2 ^ 64 }
     requires can { CanAsk code.now.plain code.now.program limits.now (native_of code.now.program method) (operands_in body.old.frames) body.old }
-    ensures comes { (set : Setting) → set.program ≡ code.now.plain → set.limits ≡ limits.now → IfOk result (λ came. Comes 0 (asks_next set (behind_at 0 body.old) (operands_in body.old.frames) (native_of code.now.program method)) body.new came) }
+    ensures comes { (set : Setting) → set.program ≡ code.now.plain → set.limits ≡ limits.now → IfOk result (λ came. ComesBy body.old.heap (λ x. asks_next set code.now.program (behind_at x body.old) (operands_in body.old.frames) (native_of code.now.program method)) body.new came) }
     ensures roomy { OnOk result (RoomyIn code.now.program body.new.frames) }
     ensures counted { OnOk result (IsNear body.old.count body.new.count) }
     ensures room { IfOk result (λ came. HasRoomFor code.now.program body.new came) }

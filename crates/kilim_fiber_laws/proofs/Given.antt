@@ -1,14 +1,18 @@
 -- What a fiber puts or starts next is an object that is whole.
-use Rattle.std.proofs.Common.{◌≡◌, ℕ, ℤ, pos, Bool, true, false, cond, not, List, [], ◌∷◌, Option, Some, None, refl, subst, ◌+◌, suc}
+use Rattle.std.proofs.Common.{◌≡◌, ℕ, ℤ, pos, negsuc, zero, Bool, true, false, cond, not, List, [], ◌∷◌, Option, Some, None, refl, subst, ◌+◌, suc}
 use Rattle.std.specs.Prelude.{nat_le, nat_lt, ◌&&◌}
 use Rattle.kilim_program.specs.declared.instr.Instr.{Instr}
 use Rattle.kilim_program.specs.declared.names.BoxName.{BoxName}
 use Rattle.kilim_program.specs.declared.names.MethodId.{MethodId}
 use Rattle.kilim_program.specs.declared.value.Value.{Value}
-use Rattle.kilim_program.specs.declared.value.Value.TheVariants.{Int, Ref, Box, Fiber}
+use Rattle.kilim_program.specs.declared.value.Value.TheVariants.{Int, Null, Ref, Box, Fiber}
 use Rattle.kilim_program.specs.Program.{Program}
 use Rattle.kilim_fiber_spec.proofs.fiber_kin.Belows.{AllWell}
+use Rattle.kilim_run_state.specs.declared.cause.EndCause.{EndCause}
 use Rattle.kilim_run_state.specs.declared.cause.EndCause.TheVariants as cause
+use Rattle.kilim_run_state.specs.Objects.{new_object}
+use Rattle.kilim_run_machine.specs.Raising.{index_at, other_index, raised_class, thrown, unwound}
+use Rattle.kilim_program.specs.declared.names.ClassId.{ClassId}
 use Rattle.kilim_run_state.specs.declared.value.Token.{Token}
 use Rattle.kilim_run_state.specs.Machine.{Objects, Activation}
 use Rattle.kilim_program.specs.Members.{execute_of}
@@ -23,7 +27,7 @@ use Rattle.kilim_run_model.specs.Lone.{arg_at, box_limit, printed}
 use Rattle.kilim_run_model.specs.State.{Setting}
 use Rattle.kilim_fiber_laws.proofs.Reached.{GivesObjects, moves_give}
 use Rattle.kilim_fiber_laws.specs.woven_kin.history.History.{state_in}
-use Rattle.kilim_fiber_laws.specs.woven_kin.Nexts.{Next, Goes, Puts, Starts, Rests, Ends, Stands, arg_next, asks_next, begins_next, begun_with, found_next, finish_next, get_next, message_next, native_next, next_by, next_in, next_of, opens_next, print_next, put_next, resumes_next, spent_or, start_next, stood, ticked, yield_next, PutWaits, put_wait_next, wait_next, bound_next, PutsAgain, first_wait, putw_next, taken_at, wait_again, waiting_at}
+use Rattle.kilim_fiber_laws.specs.woven_kin.Nexts.{counted, raised, raises, thrown_to, with_new, Next, Goes, Puts, Starts, Rests, Ends, Stands, arg_next, asks_next, begins_next, begun_with, found_next, finish_next, get_next, message_next, native_next, next_by, next_in, next_of, opens_next, print_next, put_next, resumes_next, spent_or, start_next, stood, ticked, yield_next, PutWaits, put_wait_next, wait_next, bound_next, PutsAgain, first_wait, putw_next, taken_at, wait_again, waiting_at}
 use Rattle.kilim_fiber_laws.specs.woven_kin.Standing.{Standing}
 use Rattle.kilim_fiber_spec.specs.Acts.{World, Apart}
 use Rattle.kilim_fiber_spec.specs.Fibers.{Fib, Fiber_at, Saved, executes_on, first_receiver, is_pausing, is_rewinding, member_does, wfetch}
@@ -39,6 +43,14 @@ module _ (set : Setting) (W : Program) (marks : List (List Bool)) (t : ℕ) wher
   Whole (Starts n shape a) = IsWholeAt set.program OfTask a.heap n
   Whole x = Unit {0}
 
+  thrown_whole : (l : Standing) (why : EndCause) (left : List Activation) → Whole (thrown_to l why left)
+  thrown_whole l why [] = tt
+  thrown_whole l why (f ∷ fs) = tt
+
+  raises_whole : (l : Standing) (why : EndCause) (left : ClassId → List Activation) (o : Option ClassId) → Whole (raises W l why left o)
+  raises_whole l why left None = tt
+  raises_whole l why left (Some c) = thrown_whole (with_new l (new_object W c)) why (left c)
+
   spent_whole : (counts : Bool) (done : ℕ) (x : Next) → (counts && nat_le set.limits.steps done ≡ false → Whole x) → Whole (spent_or set counts done x)
   spent_whole counts done x e = by (counts && nat_le set.limits.steps done) refl
     where
@@ -51,19 +63,24 @@ module _ (set : Setting) (W : Program) (marks : List (List Bool)) (t : ℕ) wher
     put_whole box n g None = tt
     put_whole box n g (Some shape) = g
 
-    message_whole : (box : BoxName) (v : Value) → ((root : Root) (n : ℕ) → given (Some native.Put) (Box box ∷ v ∷ []) ≡ Some (root, n) → IsWholeAt set.program root z.heap n) → Whole (message_next set.program z box v)
+    raised_whole : (why : EndCause) → Whole (raised W z why)
+    raised_whole why = raises_whole (counted z) why (λ c. unwound W c (Ref z.next) z.frames) (raised_class W other_index why)
+
+    message_whole : (box : BoxName) (v : Value) → ((root : Root) (n : ℕ) → given (Some native.Put) (Box box ∷ v ∷ []) ≡ Some (root, n) → IsWholeAt set.program root z.heap n) → Whole (message_next set.program W z box v)
     message_whole box (Ref n) g = put_whole box n (g OfMessage n refl) (shape_of set.program z.heap n)
+    message_whole box Null g = raised_whole cause.Null
     message_whole box _ g = tt
 
     put_wait_whole : (box : BoxName) (n : ℕ) → IsWholeAt set.program OfMessage z.heap n → (o : Option (List Token)) → Whole (put_wait_next set.program z box n o)
     put_wait_whole box n g None = tt
     put_wait_whole box n g (Some shape) = (g, g)
 
-    wait_whole : (box : BoxName) (v : Value) → ((root : Root) (n : ℕ) → given (Some native.PutWait) (Box box ∷ v ∷ Fiber ∷ []) ≡ Some (root, n) → IsWholeAt set.program root z.heap n) → Whole (wait_next set.program z box v)
+    wait_whole : (box : BoxName) (v : Value) → ((root : Root) (n : ℕ) → given (Some native.PutWait) (Box box ∷ v ∷ Fiber ∷ []) ≡ Some (root, n) → IsWholeAt set.program root z.heap n) → Whole (wait_next set.program W z box v)
     wait_whole box (Ref n) g = put_wait_whole box n (g OfMessage n refl) (shape_of set.program z.heap n)
+    wait_whole box Null g = raised_whole cause.Null
     wait_whole box _ g = tt
 
-    first_whole : (v u : Value) → ((root : Root) (n : ℕ) → given (Some native.PutWait) (v ∷ u ∷ Fiber ∷ []) ≡ Some (root, n) → IsWholeAt set.program root z.heap n) → Whole (first_wait set.program z v u)
+    first_whole : (v u : Value) → ((root : Root) (n : ℕ) → given (Some native.PutWait) (v ∷ u ∷ Fiber ∷ []) ≡ Some (root, n) → IsWholeAt set.program root z.heap n) → Whole (first_wait set.program W z v u)
     first_whole (Box box) u g = wait_whole box u g
     first_whole _ u g = tt
 
@@ -71,13 +88,14 @@ module _ (set : Setting) (W : Program) (marks : List (List Bool)) (t : ℕ) wher
     again_whole (Box box) (k ∷ ks) = spent_whole true z.done (PutsAgain box k.root k.shape (taken_at (record z { heap = k.heap; aside = ks })) (waiting_at box z) (taken_at (record z { aside = ks }))) (λ left. tt)
     again_whole _ _ = tt
 
-    putw_whole : (b : Bool) (v u : Value) → ((root : Root) (n : ℕ) → given (Some native.PutWait) (v ∷ u ∷ Fiber ∷ []) ≡ Some (root, n) → IsWholeAt set.program root z.heap n) → Whole (putw_next set b z v u)
+    putw_whole : (b : Bool) (v u : Value) → ((root : Root) (n : ℕ) → given (Some native.PutWait) (v ∷ u ∷ Fiber ∷ []) ≡ Some (root, n) → IsWholeAt set.program root z.heap n) → Whole (putw_next set W b z v u)
     putw_whole true v u g = again_whole v z.aside
-    putw_whole false v u g = spent_whole true z.done (first_wait set.program z v u) (λ left. first_whole v u g)
+    putw_whole false v u g = spent_whole true z.done (first_wait set.program W z v u) (λ left. first_whole v u g)
 
-    bound_whole : (box : BoxName) (i : ℤ) → Whole (bound_next z box i)
+    bound_whole : (box : BoxName) (i : ℤ) → Whole (bound_next W z box i)
     bound_whole box (pos (suc n)) = tt
-    bound_whole box i = tt
+    bound_whole box (pos zero) = raised_whole cause.Size
+    bound_whole box (negsuc n) = raised_whole cause.Size
 
     start_whole : (n : ℕ) → IsWholeAt set.program OfTask z.heap n → (o : Option (List Token)) → Whole (start_next z n o)
     start_whole n g None = tt
@@ -87,8 +105,8 @@ module _ (set : Setting) (W : Program) (marks : List (List Bool)) (t : ℕ) wher
     print_whole None = tt
     print_whole (Some token) = tt
 
-    arg_whole : (o : Option ℤ) → Whole (arg_next z o)
-    arg_whole None = tt
+    arg_whole : (o : Option ℤ) → Whole (arg_next W z o)
+    arg_whole None = raised_whole cause.Index
     arg_whole (Some n) = tt
 
     get_whole : (v : Value) → Whole (get_next z v)
@@ -113,7 +131,7 @@ module _ (set : Setting) (W : Program) (marks : List (List Bool)) (t : ℕ) wher
     member_whole Receiver (Fiber ∷ []) (Fiber_at lo r (Saved q x vs ∷ de) re pa) = tt
     member_whole _ _ _ = tt
 
-    native_whole : (n : Native) (args : List Value) → ((root : Root) (i : ℕ) → given (Some n) args ≡ Some (root, i) → IsWholeAt set.program root z.heap i) → Whole (native_next set z n args)
+    native_whole : (n : Native) (args : List Value) → ((root : Root) (i : ℕ) → given (Some n) args ≡ Some (root, i) → IsWholeAt set.program root z.heap i) → Whole (native_next set W z n args)
     native_whole native.Execute (Ref n ∷ Fiber ∷ []) g = tt
     native_whole native.Getnb (Box box ∷ []) g = tt
     native_whole native.ArgCount [] g = tt
@@ -128,7 +146,7 @@ module _ (set : Setting) (W : Program) (marks : List (List Bool)) (t : ℕ) wher
     native_whole (native.OfFiber member) args g = member_whole member args z.fiber
     native_whole _ _ g = tt
 
-    asks_whole : (n : Option Native) (args : List Value) → ((root : Root) (i : ℕ) → given n args ≡ Some (root, i) → IsWholeAt set.program root z.heap i) → Whole (asks_next set z args n)
+    asks_whole : (n : Option Native) (args : List Value) → ((root : Root) (i : ℕ) → given n args ≡ Some (root, i) → IsWholeAt set.program root z.heap i) → Whole (asks_next set W z args n)
     asks_whole None args g = tt
     asks_whole (Some n) args g = native_whole n args g
 
@@ -145,23 +163,23 @@ module _ (set : Setting) (W : Program) (marks : List (List Bool)) (t : ℕ) wher
     opens_whole counts =
         elim (nat_lt z.boxes box_limit) as (λ (b : Bool). Whole (cond b (Goes (ticked counts (record z { frames = push_value (Box (record { task = t; number = z.boxes })) z.frames; boxes = z.boxes + 1 }))) (Ends cause.Boxes))) [ true ↦ tt | false ↦ tt ]
 
-  by_whole : (x : Standing) (counts : Bool) (m : Move) → GivesObjects set.program W m → Whole (next_by set W t counts x m)
-  by_whole x counts (move.Runs change frames heap) g = tt
-  by_whole x counts (move.Makes o frames heap) g = tt
-  by_whole x counts (move.Opens frames heap) g = opens_whole (stood x frames heap) counts
-  by_whole x counts (move.Asks id args frames heap) g = asks_whole (stood x frames heap) (native_of W id) args g
-  by_whole x counts (move.Returns heap) g = finish_whole (record x { heap = heap }) x.kept
-  by_whole x counts (move.Raises why) g = tt
-  by_whole x counts (move.Throws object class why) g = tt
-  by_whole x counts (move.Ends why) g = tt
-  by_whole x counts move.Stuck g = tt
+  by_whole : (x : Standing) (counts : Bool) (top : Activation) (below : List Activation) (m : Move) → GivesObjects set.program W m → Whole (next_by set W t counts x top below m)
+  by_whole x counts top below (move.Runs change frames heap) g = tt
+  by_whole x counts top below (move.Makes o frames heap) g = tt
+  by_whole x counts top below (move.Opens frames heap) g = opens_whole (stood x frames heap) counts
+  by_whole x counts top below (move.Asks id args frames heap) g = asks_whole (stood x frames heap) (native_of W id) args g
+  by_whole x counts top below (move.Returns heap) g = finish_whole (record x { heap = heap }) x.kept
+  by_whole x counts top below (move.Raises why) g = raises_whole (ticked counts x) why (λ c. thrown W c (Ref x.next) top below) (raised_class W (index_at W top) why)
+  by_whole x counts top below (move.Throws object class why) g = thrown_whole (ticked counts x) why (thrown W class (Ref object) top below)
+  by_whole x counts top below (move.Ends why) g = tt
+  by_whole x counts top below move.Stuck g = tt
 
   module _ (x : Standing) where
     found_whole : (top : Activation) (below : List Activation) (o : Option (Instr × ℕ × Bool)) → GivesObjects set.program W (moves W top below x.heap) → Whole (found_next set W t x top below o)
     found_whole top below None g = tt
     found_whole top below (Some found) g =
         let counts : Bool = found.2 && not (is_rewinding x.fiber) in
-        spent_whole counts x.done (next_by set W t counts x (moves W top below x.heap)) (λ left. by_whole x counts (moves W top below x.heap) g)
+        spent_whole counts x.done (next_by set W t counts x top below (moves W top below x.heap)) (λ left. by_whole x counts top below (moves W top below x.heap) g)
 
     resumes_whole : (o : Option MethodId) → Whole (resumes_next W x o)
     resumes_whole None = tt

@@ -26,7 +26,6 @@ use Rattle.kilim_run_model.specs.Kept.{given}
 use Rattle.kilim_run_model.specs.State.{Setting}
 use Rattle.kilim_fiber_laws.specs.Fibers.{IsReached}
 use Rattle.kilim_fiber_laws.specs.Served.{CanServe}
-use Rattle.kilim_fiber_laws.proofs.stands.shares.Together.{none_woven}
 use Rattle.kilim_fiber_laws.proofs.woven_kin.history.Onward.{history_goes_on}
 use Rattle.kilim_fiber_laws.specs.woven_kin.history.History.{Follows, state_in, state_of, world_of}
 use Rattle.kilim_fiber_laws.proofs.woven_kin.Following.{next_kin}
@@ -132,7 +131,7 @@ module _ (set : Setting) (W : Program) (marks : List (List Bool)) (served : CanS
   is_fine = subst (IsFineState set.program W) here.2 ((along here.0).fine here.1)
 
   pub next_comes : Follows set W marks t first c.deeds acts (next_of set W marks t x)
-  next_comes = history_goes_on set W marks (none_woven set W marks served.run.keeps served.run.form served.run.well served.woven) t first c.deeds acts x r.comes
+  next_comes = history_goes_on set W marks t first c.deeds acts x r.comes
 
   -- what stands on its stack is in its heap, and what it gives away is whole
   whole_at : (fs : List Activation) → IsFineState set.program W (state_in fs x.fiber (world_of t x [] acts) (0 ∷ [])) → kin.IsWholeAt set W marks x fs

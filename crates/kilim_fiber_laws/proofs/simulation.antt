@@ -11,6 +11,7 @@ pub mod Prologue
 pub mod Rewinds
 pub mod Pauses
 pub mod Natural
+pub mod Catching
 pub mod Forward
 pub mod PlainStep
 pub mod Leaves
@@ -21,4 +22,3 @@ pub mod Whole
 pub mod Same
 pub mod Tally
 pub mod beginnings
-pub mod Uncaught

@@ -3,6 +3,7 @@ pub mod Effects
 pub mod Lands
 pub mod TwinRows
 pub mod MoreRows
+pub mod Handed
 pub mod Hands
 pub mod Shapes
 pub mod FiberCalls

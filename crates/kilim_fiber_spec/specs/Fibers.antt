@@ -231,6 +231,7 @@ module _ (set : Setting) (W : Program) (marks : List (List Bool)) where
 
     abbrev pub waits : List Value → Fib → World → List ℕ → Woven_state
     waits (Box box ∷ Ref n ∷ []) f w (suc k ∷ ps) = waits_on box n (shape_of set.program w.heap n) f w k ps
+    waits (Box box ∷ Null ∷ []) f w ps = puts_now (Box box ∷ Null ∷ []) f w ps
     waits args f w (zero ∷ ps) = puts_now args f w ps
     waits args f w ps = puts_now args f w ps
 

@@ -111,8 +111,9 @@ module _ (P W : Program) (wfetch : MethodId → ℕ → Option (Instr × ℕ × 
     pub stays : (p to : ℕ) (i : Instr) → fetch P m p ≡ Some (i, to) → pausable_callee P i ≡ None → Stays fm p to i
     pub group : (p to : ℕ) (i : Instr) (callee : Method) → fetch P m p ≡ Some (i, to) → pausable_callee P i ≡ Some callee → Group fm p to i callee
     pub starts : Starts fm fm.has_calls
-    -- what has calls is pausable
+    -- what has calls is pausable, and what has none is moved by nothing
     pub calls_pausable : fm.has_calls ≡ true → is_pausable P m ≡ true
+    pub unmoved : fm.has_calls ≡ false → (p : ℕ) → fm.at p ≡ p
     pub reads_shown : (p to k : ℕ) (i : Instr) → fetch P m p ≡ Some (i, to) → reads i k ≡ true → shown fm p k ≡ true
     pub flows : (p to q k : ℕ) (i : Instr) → fetch P m p ≡ Some (i, to) → Among (edges i to) q → shown fm q k ≡ true → (shown fm p k ≡ true) ⊎ (sets i k ≡ true)
     -- what is live at the beginning is an argument

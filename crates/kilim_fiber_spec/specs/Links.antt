@@ -220,9 +220,10 @@ module _ (set : Setting) (W : Program) (marks : List (List Bool)) where
       pub is_reference : IsReference self
       pub within : length l ≤ fiber_slot (form m).method
 
+    -- a method that can't pause has the same locals on both sides
     abbrev pub Held : Bool → MethodId → List Value → List Value → Value → Type 0
     Held true m l wl x = Holds m l wl x
-    Held false m l wl x = length l ≤ length wl
+    Held false m l wl x = (length l ≤ length wl) × (is_pausable set.program m ≡ false → wl ≡ l)
 
     abbrev pub Stands : Link → Type 0
     Stands (Lk m from to i callee s l wl x old was) = (fetch set.program m from ≡ Some (i, to)) × (pausable_callee set.program i ≡ Some callee)

@@ -1,9 +1,10 @@
 -- A woven fiber does what the unwoven thread does: what it rests on, and what it says.
-use Rattle.std.specs.Prelude.{◌≡◌, ◌≢◌, ◌⊎◌, ◌↔◌, ℕ, suc, ◌≤◌, nat_le, Bool, true, false, List, [], ◌∷◌, Some, None, length}
+use Rattle.std.specs.Prelude.{◌≡◌, ◌≢◌, ◌⊎◌, ◌↔◌, ℕ, suc, ◌≤◌, ◌<◌, nat_le, Bool, true, false, List, [], ◌∷◌, Some, None, length}
 use Rattle.kilim_run_state.specs.declared.cause.EndCause.{EndCause}
 use Rattle.kilim_program.specs.declared.class.Method.{Method}
 use Rattle.kilim_program.specs.declared.instr.Instr.{Instr}
 use Rattle.kilim_program.specs.declared.names.BoxName.{BoxName}
+use Rattle.kilim_program.specs.declared.names.ClassId.{ClassId}
 use Rattle.kilim_program.specs.declared.names.MethodId.{MethodId}
 use Rattle.kilim_program.specs.declared.value.Value.{Value}
 use Rattle.kilim_program.specs.declared.value.Value.TheVariants as value
@@ -12,11 +13,11 @@ use Rattle.kilim_run_state.specs.Machine.{Objects}
 use Rattle.kilim_run_state.specs.Shapes.{shape_of}
 use Rattle.kilim_run_state.specs.Trees.{tree_names, without}
 use Rattle.kilim_run_state.specs.declared.value.Token.{Token}
-use Rattle.kilim_program.specs.Names.{method_at}
+use Rattle.kilim_program.specs.Names.{is_empty, line_of, method_at}
 use Rattle.kilim_program.specs.Members.{execute_of}
 use Rattle.kilim_run_machine.specs.Natives.{Native, native_of}
 use Rattle.kilim_run_machine.specs.Natives as native
-use Rattle.kilim_run_machine.specs.Effect.{Effect, Calls, Asks, Raises, Ends, Stuck}
+use Rattle.kilim_run_machine.specs.Effect.{Effect, Calls, Asks, Raises, Throws, Ends, Stuck}
 use Rattle.kilim_run_machine.specs.Does.{does}
 use Rattle.kilim_program.specs.Lengths.{ends_path}
 use Rattle.kilim_run_machine.specs.Moves.{slots_in}
@@ -24,7 +25,9 @@ use Rattle.kilim_type_sound.specs.Fits.{AreThere, IsThere}
 use Rattle.kilim_run_interp.specs.Step.{stack_limit}
 use Rattle.kilim_run_model.specs.State.{Setting}
 use Rattle.kilim_weave_spec.specs.Woven.{moved_instr, pausable_callee}
-use Rattle.kilim_run_machine.specs.Raising.{NoTables}
+use Rattle.kilim_run_machine.specs.Raising.{raised_class}
+use Rattle.kilim_run_state.specs.Objects.{new_object}
+use Rattle.kilim_type_sound.specs.Facts.{IsIndexName}
 use Rattle.kilim_fiber_spec.specs.Acts.{World, Over, Lost, together, Apart}
 use Rattle.kilim_fiber_spec.specs.Thread.{fetch, own_of, self_of, Frame, Thread, Run, Stop, step, steps}
 use Rattle.kilim_fiber_spec.specs.Fibers.{Fib, member_of, Woven_state, WRun, Resting, WStop, wsteps}
@@ -72,6 +75,22 @@ pub data Shape (to : ℕ) (l : List Value) (heap : Objects) (e : Effect) : Type 
   IsEnd : (cause : EndCause) → e ≡ Ends cause → Shape to l heap e
   IsStuck : e ≡ Stuck → Shape to l heap e
 
+-- ---- exceptions
+
+-- the method of that number has no exception table
+abbrev pub IsBare : Program → MethodId → Type 0
+IsBare p id = (m : Method) → method_at p id ≡ Some m → is_empty m.handlers ≡ true
+
+-- What is raised or thrown is caught alike. A method that can't pause is in W as it is in P, with its table; no other method has one. A class
+-- is below the same classes in both programs; and what is raised is of one class, whose objects are made alike.
+pub record CatchesAlike (P W : Program) : Type 0 where
+  pub plain : (id : MethodId) (a : Method) → method_at P id ≡ Some a → a.pausable ≡ false → method_at W id ≡ Some a
+  pub paused : (id : MethodId) → is_pausable P id ≡ true → IsBare P id × IsBare W id
+  pub added : (id : MethodId) → method_at P id ≡ None → IsBare W id
+  pub lines : (c : ClassId) → c.0 < length P.classes → line_of W c ≡ line_of P c
+  pub raised : (index : List ℕ) → IsIndexName index → (why : EndCause) → raised_class W index why ≡ raised_class P index why
+  pub made : (index : List ℕ) (why : EndCause) (c : ClassId) → raised_class P index why ≡ Some c → (c.0 < length P.classes) × (new_object W c ≡ new_object P c)
+
 -- the states to which a thread comes
 abbrev pub From : Setting → Thread → Thread → Type 0
 From set first t = (n : ℕ) × (steps set n first ≡ t)
@@ -98,14 +117,16 @@ module _ (set : Setting) (W : Program) (marks : List (List Bool)) (form : Forms 
         → OldHeap set.program heap → IsClean set.program i s heap → Alike set W marks form m p l wl → Held set W marks form (form m).has_calls m l wl x → does set.program (own_of set.program m) i to l s heap ≢ Stuck
         → Twins m l wl x (does set.program (own_of set.program m) i to l s heap) (does W (own_of W m) (moved_instr (form m).at i) nx wl s heap)
     pub hands : (m : MethodId) (p : ℕ) (i : Instr) (callee : Method) (to nx : ℕ) (l wl s : List Value) (heap : Objects) → fetch set.program m p ≡ Some (i, to) → pausable_callee set.program i ≡ Some callee → OldHeap set.program heap → IsClean set.program i s heap → does W (own_of W m) i nx wl (value.Fiber ∷ s) heap ≡ handed nx wl (does set.program (own_of set.program m) i to l s heap)
-    pub shapes : (m : MethodId) (i : Instr) (callee : Method) (to : ℕ) (l s : List Value) (heap : Objects) → pausable_callee set.program i ≡ Some callee → Shape to l heap (does set.program (own_of set.program m) i to l s heap)
+    pub shapes : (m : MethodId) (p : ℕ) (i : Instr) (callee : Method) (to : ℕ) (l s : List Value) (heap : Objects) → fetch set.program m p ≡ Some (i, to) → pausable_callee set.program i ≡ Some callee → IsClean set.program i s heap → Shape to l heap (does set.program (own_of set.program m) i to l s heap)
     pub natives : (m : MethodId) (p : ℕ) (i : Instr) (callee : Method) (to : ℕ) (l s s2 args : List Value) (heap : Objects) (c : MethodId) → fetch set.program m p ≡ Some (i, to) → pausable_callee set.program i ≡ Some callee → IsClean set.program i s heap → does set.program (own_of set.program m) i to l s heap ≡ Asks c args to l s2 heap
         → (member_of W c ≡ None) × ((n : Native) → native_of set.program c ≡ Some n → is_pausing_native n ≡ true)
     pub same_natives : (c : MethodId) → member_of W c ≡ None → native_of W c ≡ native_of set.program c
+    -- a pausable call calls a pausable method
+    pub pauses : (m : MethodId) (p : ℕ) (i : Instr) (callee : Method) (to : ℕ) (l s s2 args : List Value) (heap : Objects) (c : MethodId) → fetch set.program m p ≡ Some (i, to) → pausable_callee set.program i ≡ Some callee → IsClean set.program i s heap → does set.program (own_of set.program m) i to l s heap ≡ Calls c args to l s2 heap
+        → is_pausable set.program c ≡ true
     -- a method that isn't pausable begins alike
     pub same_slots : (c : MethodId) → is_pausable set.program c ≡ false → slots_in (method_at W c) ≡ slots_in (method_at set.program c)
-    -- no method has an exception table, in neither program
-    pub none_catches : NoTables set.program × NoTables W
+    pub catches : CatchesAlike set.program W
     -- `execute` of the main class
     pub begins : execute_of W set.main ≡ execute_of set.program set.main
     pub begins_alike : (c : MethodId) (a : Method) → execute_of set.program set.main ≡ Some c → method_at set.program c ≡ Some a → (b : Method) × (method_at W c ≡ Some b) × (b.built_in ≡ a.built_in) × (a.pausable ≡ true)
@@ -141,6 +162,9 @@ module _ (set : Setting) (W : Program) (marks : List (List Bool)) (form : Forms 
     -- what it gives away is a whole tree
     pub gives : (m : MethodId) (p to : ℕ) (i : Instr) (l s : List Value) (x : Value) (b : List Frame) (w : World) → Typed (Run m p l s x b w) → fetch set.program m p ≡ Some (i, to)
         → GivesWhole set.program set.program w.heap (does set.program (own_of set.program m) i to l s w.heap)
+    -- what it throws is of a class of the program
+    pub throws : (m : MethodId) (p to : ℕ) (i : Instr) (l s : List Value) (x : Value) (b : List Frame) (w : World) (n : ℕ) (c : ClassId) (why : EndCause) → Typed (Run m p l s x b w) → fetch set.program m p ≡ Some (i, to)
+        → does set.program (own_of set.program m) i to l s w.heap ≡ Throws n c why → c.0 < length set.program.classes
     -- at most so many frames
     pub few_frames : (m : MethodId) (p : ℕ) (l s : List Value) (x : Value) (b : List Frame) (w : World) → Typed (Run m p l s x b w) → suc (length b) ≤ 512
 

@@ -11,12 +11,12 @@ use Rattle.kilim_run_machine.specs.Moves.{Move, effect_of, move_by, moves}
 use Rattle.kilim_run_state.specs.declared.frames.frames.Frames.{Frames}
 use Rattle.kilim_run_state.specs.frames.Calls.{activation, below_of, calls_of}
 use Rattle.kilim_run_rows.specs.declared.outcome.Moved.{Moved}
-use Rattle.kilim_run_interp.specs.Step.{CanSettle, IsWent, Steps}
+use Rattle.kilim_run_interp.specs.Step.{CanSettle, Steps}
 use Rattle.kilim_run_interp.specs.Run.{IsFine}
 use Rattle.kilim_run_interp.specs.declared.machine.Stepped.TheVariants.{AtNative}
 use Rattle.kilim_run_interp.proofs.Reading.{can_settle}
 use Rattle.kilim_fiber_spec.specs.Fibers.{marks_of}
-use Rattle.kilim_fiber_steps.specs.Counted.{AtFirst, CountedRunsTo, Further, HasCountedRun, IsCountedLast, IsCountedSafe, tick_if}
+use Rattle.kilim_fiber_steps.specs.Counted.{AtFirst, CountedRunsTo, Further, GoesOn, HasCountedRun, IsCountedLast, IsCountedSafe, Went, tick_if}
 use Rattle.kilim_fiber_steps.specs.Legs.{HasGone, HasHalted, IsHalt, IsOver, IsUnsettled, Settles}
 use Rattle.kilim_fiber_steps.specs.Marks.{IsMarked, NextHas}
 use Rattle.kilim_fiber_steps.specs.declared.runs.Halt.{Halt}
@@ -47,12 +47,12 @@ over_by own marks true false left f x is counts none = absurd (cc)
 over_by own marks false live left f x is counts none = absurd (cc)
 
 -- frames that wait for an answer tell the call
-pub asks_by : (m : Move) (id : MethodId) (count next : ℕ) (old new : Frames) (calls : List Activation) (h k : Objects) → new ≡ record old { operands = count; next = next } → count ≤ length old.top.stack.values →
-    Steps m (AtNative (record { method = id; args = reverse (take count old.top.stack.values) })) calls new h k → Settles m (Some (halted.Asks id)) calls new h k
-asks_by m id count next old new calls h k kept few steps =
+pub asks_by : (p : Program) (top : Activation) (below : List Activation) (m : Move) (id : MethodId) (count next : ℕ) (old new : Frames) (h k : Objects) → new ≡ record old { operands = count; next = next } → count ≤ length old.top.stack.values →
+    Steps m (AtNative (record { method = id; args = reverse (take count old.top.stack.values) })) (top ∷ below) new h k → Settles p top below m (Some (halted.Asks id)) new h k
+asks_by p top below m id count next old new h k kept few steps =
     let args : reverse (take new.operands new.top.stack.values) ≡ reverse (take count old.top.stack.values) = ap (λ (f : Frames). reverse (take f.operands f.top.stack.values)) kept in (
       subst (λ (f : Frames). f.operands ≤ length f.top.stack.values) (sym kept) few,
-      subst (λ (vs : List Value). Steps m (AtNative (record { method = id; args = vs })) calls new h k) (sym args) steps,
+      subst (λ (vs : List Value). Steps m (AtNative (record { method = id; args = vs })) (top ∷ below) new h k) (sym args) steps,
     )
 
 module _ (p : Program) (counted : List (List Bool)) (live : Bool) where
@@ -84,7 +84,7 @@ module _ (p : Program) (counted : List (List Bool)) (live : Bool) where
       safe (limit - left) mark top below x (omega arith) (λ counts. let more : 0 < left = some counts in omega (arith, more, most)) runs has
 
   pub one_more : (limit left fewer : ℕ) (counts mark : Bool) (first : List Activation) (h : Objects) (top : Activation) (below calls : List Activation) (x k : Objects) →
-      CountedRunsTo p counted live first h (limit - left) (top ∷ below) x → NextHas p counted mark (top ∷ below) → IsWent (moves p top below x) calls x k →
+      CountedRunsTo p counted live first h (limit - left) (top ∷ below) x → NextHas p counted mark (top ∷ below) → GoesOn p top below (moves p top below x) x calls k →
       left ≤ limit → counts ≡ (mark && live) → left ≡ tick_if counts fewer → CountedRunsTo p counted live first h (limit - fewer) calls k
   one_more limit left fewer counts mark first h top below calls x k runs has went most by is =
       Further mark (limit - left) (top ∷ below) x runs has went (one_less counts limit left fewer most is ∙ ap (λ (b : Bool). tick_if b (limit - left)) by)
@@ -96,7 +96,7 @@ module _ (p : Program) (counted : List (List Bool)) (live : Bool) where
       HasGone p own marks live left f x counts new k → left ≡ tick_if counts fewer → CountedRunsTo p counted live first h (limit - fewer) (calls_of new) k
   gone_on own marks limit left fewer first h f x counts new k there are most runs is less =
       one_more limit left fewer counts is.mark first h (activation f.top) (below_of f) (calls_of new) x k runs
-      (mark_in p counted f.top.method own marks f.top.pc is.mark there are is.is) is.went most is.by less
+      (mark_in p counted f.top.method own marks f.top.pc is.mark there are is.is) (Went is.went) most is.by less
 
   -- what ended the steps of a frame, from its last instruction
   pub leg_of : (own : Method) (marks : List Bool) (limit left fuel : ℕ) (first : List Activation) (h : Objects) (f : Frames) (x : Objects) (halt : Halt) (new : Frames) (k : Objects) →
@@ -164,21 +164,21 @@ module _ (p : Program) (counted : List (List Bool)) (live : Bool) where
       can_go_on safe =
           can_settle p own (effect_of p (activation rest.before) rest.heap) next moved rest.before new rest.heap k rest.before.method rest.shows (fine_here safe).fits
 
-      module _ (after : Frames) where
+      module _ (after : Frames) (y : Objects) where
         -- the task goes on
         pub further : (counts : Bool) (fewer : ℕ) → counts ≡ (mark && live) → few ≡ tick_if counts fewer →
-            Settles (move_by p (effect_of p (activation rest.before) rest.heap) (activation rest.before) (below_of new)) None (activation rest.before ∷ below_of new) after rest.heap k →
-            CountedRunsTo p counted live first h (limit - fewer) (calls_of after) k
+            Settles p (activation rest.before) (below_of new) (move_by p (effect_of p (activation rest.before) rest.heap) (activation rest.before) (below_of new)) None after rest.heap y →
+            CountedRunsTo p counted live first h (limit - fewer) (calls_of after) y
         unfolding moves
         further counts fewer by is went =
-            one_more limit few fewer counts mark first h (activation rest.before) (below_of new) (calls_of after) rest.heap k so_far has_here went (omega (arith, most, less)) by is
+            one_more limit few fewer counts mark first h (activation rest.before) (below_of new) (calls_of after) rest.heap y so_far has_here went (omega (arith, most, less)) by is
 
         unspent : (mark && live) ≡ true → limit - few < limit
         unspent counts = let some : 0 < few = rest.some counts in omega (arith, some, most, less)
 
         -- it halts
-        last_of : (halted : Halted) → Settles (moves p (activation rest.before) (below_of new) rest.heap) (Some halted) (activation rest.before ∷ below_of new) after rest.heap k →
-            IsCountedLast p counted live limit (limit - few) (activation rest.before ∷ below_of new) rest.heap mark halted after k
+        last_of : (halted : Halted) → Settles p (activation rest.before) (below_of new) (moves p (activation rest.before) (below_of new) rest.heap) (Some halted) after rest.heap y →
+            IsCountedLast p counted live limit (limit - few) (activation rest.before ∷ below_of new) rest.heap mark halted after y
         last_of halted.Stops none = absurd none
         last_of halted.Spent none = absurd none
         last_of halted.NewBox steps = record { left = unspent; has = has_here; step = steps }
@@ -186,8 +186,8 @@ module _ (p : Program) (counted : List (List Bool)) (live : Bool) where
         last_of halted.Returned steps = record { left = unspent; has = has_here; step = steps }
         last_of (halted.Ended cause) steps = record { left = unspent; has = has_here; step = steps }
 
-        pub halts : (halted : Halted) → Settles (move_by p (effect_of p (activation rest.before) rest.heap) (activation rest.before) (below_of new)) (Some halted) (activation rest.before ∷ below_of new) after rest.heap k →
-            HasCountedRun p counted live limit first h (limit - few) mark halted after k
+        pub halts : (halted : Halted) → Settles p (activation rest.before) (below_of new) (move_by p (effect_of p (activation rest.before) rest.heap) (activation rest.before) (below_of new)) (Some halted) after rest.heap y →
+            HasCountedRun p counted live limit first h (limit - few) mark halted after y
         unfolding moves
         halts halted steps = record {
           calls = activation rest.before ∷ below_of new;

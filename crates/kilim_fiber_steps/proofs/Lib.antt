@@ -1,3 +1,4 @@
+mod Catching
 mod Counting
 mod Doing
 mod Marks

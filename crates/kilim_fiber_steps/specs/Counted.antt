@@ -1,14 +1,21 @@
 -- Several steps of a task, some of which count.
-use Rattle.std.specs.Prelude.{◌≡◌, ℕ, suc, ◌<◌, ◌≤◌, Bool, true, false, ◌&&◌, List, [], ◌∷◌, Some, reverse, take, length}
+use Rattle.std.specs.Prelude.{◌≡◌, ℕ, suc, ◌<◌, ◌≤◌, Bool, true, false, ◌&&◌, List, [], ◌∷◌, Some, None, reverse, take, length}
+use Rattle.std.specs.FinMap.{get, insert}
+use Rattle.kilim_program.specs.declared.names.ClassId.{ClassId}
 use Rattle.kilim_program.specs.declared.names.MethodId.{MethodId}
+use Rattle.kilim_program.specs.declared.value.Value.{Value}
+use Rattle.kilim_program.specs.declared.value.Value.TheVariants.{Ref}
 use Rattle.kilim_program.specs.Program.{Program}
 use Rattle.kilim_run_state.specs.declared.cause.EndCause.{EndCause}
 use Rattle.kilim_run_state.specs.Machine.{Activation, Objects}
-use Rattle.kilim_run_machine.specs.Moves.{moves}
+use Rattle.kilim_run_state.specs.Objects.{new_object}
+use Rattle.kilim_run_machine.specs.Moves.{Move, moves}
+use Rattle.kilim_run_machine.specs.Moves as move
+use Rattle.kilim_run_machine.specs.Raising.{index_at, raised_class, thrown}
 use Rattle.kilim_run_state.specs.declared.frames.frames.Frames.{Frames}
 use Rattle.kilim_run_state.specs.frames.Calls.{calls_of}
-use Rattle.kilim_run_interp.specs.Run.{IsFine, LastSteps, StepsTo}
-use Rattle.kilim_run_interp.specs.Step.{cause_of}
+use Rattle.kilim_run_interp.specs.Run.{IsFine, LastSteps}
+use Rattle.kilim_run_interp.specs.Step.{IsWent}
 use Rattle.kilim_run_interp.specs.declared.machine.NativeCall.{NativeCall}
 use Rattle.kilim_run_interp.specs.declared.machine.Stepped.{Stepped}
 use Rattle.kilim_run_interp.specs.declared.machine.Stepped.TheVariants as stepped
@@ -21,11 +28,36 @@ abbrev pub tick_if : Bool → ℕ → ℕ
 tick_if true n = suc n
 tick_if false n = n
 
+-- ---- exceptions
+
+-- A move of these frames on this heap, after which the task goes on: by itself, or at the handler that catches what it raises, a new
+-- object, or throws.
+pub data GoesOn (p : Program) (top : Activation) (below : List Activation) (m : Move) (h : Objects) (calls : List Activation) (k : Objects) : Type 0 where
+  Went : IsWent m calls h k → GoesOn p top below m h calls k
+  Caught : (why : EndCause) (of : ClassId) (name : ℕ) (f : Activation) (fs : List Activation) → m ≡ move.Raises why → raised_class p (index_at p top) why ≡ Some of → get h name ≡ None →
+      k ≡ insert h name (new_object p of) → thrown p of (Ref name) top below ≡ f ∷ fs → calls ≡ f ∷ fs → GoesOn p top below m h calls k
+  Thrown : (why : EndCause) (object : ℕ) (class : ClassId) (f : Activation) (fs : List Activation) → m ≡ move.Throws object class why → k ≡ h →
+      thrown p class (Ref object) top below ≡ f ∷ fs → calls ≡ f ∷ fs → GoesOn p top below m h calls k
+
+-- one step, after which the task goes on
+abbrev pub StepsOn : Program → List Activation → Objects → List Activation → Objects → Type 0
+StepsOn p [] h calls k = ⊥
+StepsOn p (top ∷ below) h calls k = GoesOn p top below (moves p top below h) h calls k
+
+-- The move of these frames ends the task with that cause: nothing catches what it raises or throws.
+abbrev pub IsEnding : Program → Activation → List Activation → Move → EndCause → Type 0
+IsEnding p top below (move.Ends why) cause = why ≡ cause
+IsEnding p top below (move.Raises why) cause = (why ≡ cause) × ((c : ClassId) → raised_class p (index_at p top) why ≡ Some c → (v : Value) → thrown p c v top below ≡ [])
+IsEnding p top below (move.Throws object class why) cause = (why ≡ cause) × (thrown p class (Ref object) top below ≡ [])
+IsEnding p top below m cause = ⊥
+
+-- ---- steps
+
 -- Steps one after the other, each of an instruction that has a mark, of which so many count: those that are marked, where the fiber is live.
 pub data CountedRunsTo (p : Program) (counted : List (List Bool)) (live : Bool) (first : List Activation) (h : Objects) : ℕ → List Activation → Objects → Type 0 where
   AtFirst : {n : ℕ} {calls : List Activation} {k : Objects} → n ≡ 0 → calls ≡ first → k ≡ h → CountedRunsTo p counted live first h n calls k
   Further : {n : ℕ} {calls : List Activation} {k : Objects} (mark : Bool) (m : ℕ) (mid : List Activation) (x : Objects) →
-      CountedRunsTo p counted live first h m mid x → NextHas p counted mark mid → StepsTo p mid x calls k → n ≡ tick_if (mark && live) m → CountedRunsTo p counted live first h n calls k
+      CountedRunsTo p counted live first h m mid x → NextHas p counted mark mid → StepsOn p mid x calls k → n ≡ tick_if (mark && live) m → CountedRunsTo p counted live first h n calls k
 
 -- Wherever such steps lead, the next one is fine, if its instruction has a mark: unless that counts, and as many are counted as may be.
 abbrev pub IsCountedSafe : Program → List (List Bool) → Bool → ℕ → List Activation → Objects → Type 0
@@ -42,10 +74,10 @@ pub record AnswersNext (p : Program) (counted : List (List Bool)) (live : Bool) 
   pub has : NextHas p counted mark calls
   pub step : LastSteps p calls h answer new k
 
--- the next step raises, throws or ends, with that cause
+-- the next step ends the task with that cause
 abbrev pub LastEnds : Program → List Activation → Objects → EndCause → Type 0
 LastEnds p [] h cause = ⊥
-LastEnds p (top ∷ below) h cause = cause_of (moves p top below h) ≡ Some cause
+LastEnds p (top ∷ below) h cause = IsEnding p top below (moves p top below h) cause
 
 -- the next instruction has that mark, and may be done, and its step ends so
 pub record EndsNext (p : Program) (counted : List (List Bool)) (live : Bool) (limit steps : ℕ) (calls : List Activation) (h : Objects) (mark : Bool) (cause : EndCause) : Type 0 where

@@ -10,9 +10,9 @@ use Rattle.kilim_run_state.specs.declared.frames.frames.Frames.{Frames}
 use Rattle.kilim_run_state.specs.frames.Calls.{activation, below_of, calls_of}
 use Rattle.kilim_run_rows.specs.declared.outcome.Moved.{Moved}
 use Rattle.kilim_run_rows.specs.Outcome.{Shows}
-use Rattle.kilim_run_interp.specs.Step.{IsWent, Steps, cause_of}
+use Rattle.kilim_run_interp.specs.Step.{IsWent, Steps}
 use Rattle.kilim_run_interp.specs.declared.machine.Stepped.TheVariants as stepped
-use Rattle.kilim_fiber_steps.specs.Counted.{CountedRunsTo, asked_of, tick_if}
+use Rattle.kilim_fiber_steps.specs.Counted.{CountedRunsTo, GoesOn, IsEnding, asked_of, tick_if}
 use Rattle.kilim_fiber_steps.specs.Marks.{IsMark, IsMarked, NextHas}
 use Rattle.kilim_fiber_steps.specs.declared.runs.Halt.{Halt}
 use Rattle.kilim_fiber_steps.specs.declared.runs.Halt.TheVariants as halt
@@ -123,11 +123,11 @@ pub record IsCountedLeg (p : Program) (own : Method) (counted : List (List Bool)
 -- ---- the last of them, settled
 
 -- what halts the run, or none where the task goes on
-abbrev pub Settles : Move → Option Halted → List Activation → Frames → Objects → Objects → Type 0
-Settles m None calls new h k = IsWent m (calls_of new) h k
-Settles m (Some halted.Stops) calls new h k = ⊥
-Settles m (Some halted.Spent) calls new h k = ⊥
-Settles m (Some halted.NewBox) calls new h k = Steps m stepped.NewBox calls new h k
-Settles m (Some (halted.Asks id)) calls new h k = (new.operands ≤ length new.top.stack.values) × Steps m (stepped.AtNative (asked_of id new)) calls new h k
-Settles m (Some halted.Returned) calls new h k = Steps m stepped.Returned calls new h k
-Settles m (Some (halted.Ended cause)) calls new h k = cause_of m ≡ Some cause
+abbrev pub Settles : Program → Activation → List Activation → Move → Option Halted → Frames → Objects → Objects → Type 0
+Settles p top below m None new h k = GoesOn p top below m h (calls_of new) k
+Settles p top below m (Some halted.Stops) new h k = ⊥
+Settles p top below m (Some halted.Spent) new h k = ⊥
+Settles p top below m (Some halted.NewBox) new h k = Steps m stepped.NewBox (top ∷ below) new h k
+Settles p top below m (Some (halted.Asks id)) new h k = (new.operands ≤ length new.top.stack.values) × Steps m (stepped.AtNative (asked_of id new)) (top ∷ below) new h k
+Settles p top below m (Some halted.Returned) new h k = Steps m stepped.Returned (top ∷ below) new h k
+Settles p top below m (Some (halted.Ended cause)) new h k = IsEnding p top below m cause

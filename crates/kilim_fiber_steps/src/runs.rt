@@ -1,16 +1,19 @@
 //! Several steps of a task, one after the other, some of which count.
 
-ghost use Rattle.std.specs.Prelude.{◌≡◌, ◌<◌, ◌≤◌, ◌+◌, ◌&&◌, ◌∷◌, Bool, true, false, not, Some, IfOk, IfSome, OnOk, drop, length};
+ghost use Rattle.std.specs.Prelude.{◌≡◌, ◌<◌, ◌≤◌, ◌+◌, ◌&&◌, ◌∷◌, ℕ, List, Bool, true, false, not, Some, IfOk, IfSome, OnOk, drop, length};
 ghost use Rattle.kilim_program.specs.Lengths.{first_place};
 ghost use Rattle.kilim_program.specs.lookups.Places.{Rising};
 ghost use Rattle.kilim_program.specs.Names.{method_at};
 ghost use Rattle.kilim_run_state.specs.declared.frames.frame.Frame.{Frame as AFrame};
 ghost use Rattle.kilim_run_state.specs.frames.Calls.{activation, below_of, calls_of};
 ghost use Rattle.kilim_run_interp.specs.Run.{IsFine};
-ghost use Rattle.kilim_run_interp.specs.Step.{AreRoomy, CanSettle};
+ghost use Rattle.kilim_run_interp.specs.Catching.{IsRaised};
+ghost use Rattle.kilim_run_interp.specs.Step.{AreRoomy, CanSettle, StandsAt};
 ghost use Rattle.kilim_run_machine.specs.Effect.{Effect};
-ghost use Rattle.kilim_run_state.specs.Machine.{Objects};
-ghost use Rattle.kilim_run_machine.specs.Moves.{move_by};
+ghost use Rattle.kilim_run_state.specs.Machine.{Activation, Objects};
+ghost use Rattle.kilim_run_machine.specs.Moves.{Move, move_by};
+ghost use Rattle.kilim_run_machine.specs.Moves as a_move;
+ghost use Rattle.kilim_run_machine.specs.Raising.{index_at, raised_class, thrown};
 ghost use Rattle.kilim_run_rows.specs.Outcome.{Shows};
 ghost use Rattle.kilim_run_machine.specs.Natives as native;
 ghost use Rattle.kilim_run_machine.specs.Natives.{native_of};
@@ -28,9 +31,9 @@ use crate::places::{Places, mark_of, marks_of, number_at, number_near, place_at}
 use crate::records::Records;
 use crate::records::natives::{Member, Native, native_at};
 use kilim_program::lookups::{code_rises, instr_at, method_at};
-use kilim_program::{Instr, Method, MethodId, Program};
+use kilim_program::{ClassId, Instr, Method, MethodId, Program};
 use kilim_run_interp::instruction::{Reach, act, act_near, told};
-use kilim_run_interp::{Stepped, await_answer, settle};
+use kilim_run_interp::{Stepped, await_answer, index_name, raise_at, raised_class, settle, throw};
 use kilim_run_rows::Moved;
 use kilim_run_state::frames::{Frame, Frames, no_frame};
 use kilim_run_state::{EndCause, Heap};
@@ -610,6 +613,72 @@ fn run_frame(
     }
 }
 
+// What is raised at the instruction goes to the frame that catches it, as a new object: its name.
+fn raise_in(
+    alloc: Global,
+    program: &Program,
+    cause: EndCause,
+    frames: &mut Frames,
+    heap: &mut Heap,
+) -> Result<Option<u32>, NoMemory>
+    requires roomy { AreRoomy program.now frames.old }
+    ensures roomy { OnOk result (AreRoomy program.now frames.new) }
+    ensures raised { IfOk result (λ name. IsRaised program.now (raised_class program.now (index_at program.now (activation frames.old.top)) cause) (λ c v. thrown program.now c v (activation frames.old.top) (below_of frames.old)) name frames.new heap.old heap.new) }
+{
+    let index = index_name(program, &frames.top);
+    let Ok(class) = raised_class(program, index, cause) else {
+        return Err(NoMemory);
+    };
+    raise_at(alloc, program, class, frames, heap)
+}
+
+// The instruction raises that: the task goes on at its handler, or ends.
+fn raised(
+    alloc: Global,
+    program: &Program,
+    cause: EndCause,
+    frames: &mut Frames,
+    heap: &mut Heap,
+) -> Result<Option<Halted>, NoMemory>
+    requires roomy { AreRoomy program.now frames.old }
+    ensures roomy { OnOk result (AreRoomy program.now frames.new) }
+    ensures settles { (m : Move) (top : Activation) (below : List Activation) (h : Objects) → m ≡ a_move.Raises cause → StandsAt (top ∷ below) frames.old → heap.old ≡ h → IfOk result (λ halted. Settles program.now top below m halted frames.new h heap.new) }
+{
+    let Ok(caught) = raise_in(alloc, program, cause, frames, heap) else {
+        return Err(NoMemory);
+    };
+    match caught {
+        Some(name) => {
+            let _name = name;
+            Ok(None)
+        }
+        None => Ok(Some(Halted::Ended(cause))),
+    }
+}
+
+// The instruction throws an object: the task goes on at its handler, or ends.
+fn threw(
+    alloc: Global,
+    program: &Program,
+    class: ClassId,
+    object: u32,
+    cause: EndCause,
+    frames: &mut Frames,
+) -> Result<Option<Halted>, NoMemory>
+    requires roomy { AreRoomy program.now frames.old }
+    ensures roomy { OnOk result (AreRoomy program.now frames.new) }
+    ensures settles { (m : Move) (top : Activation) (below : List Activation) (h k : Objects) → m ≡ a_move.Throws object class cause → StandsAt (top ∷ below) frames.old → k ≡ h → IfOk result (λ halted. Settles program.now top below m halted frames.new h k) }
+{
+    let Ok(caught) = throw(alloc, program, class, object, frames) else {
+        return Err(NoMemory);
+    };
+    if caught {
+        Ok(None)
+    } else {
+        Ok(Some(Halted::Ended(cause)))
+    }
+}
+
 // Settles what came of an instruction: what halts the run, or nothing where the task goes on.
 fn go_on(
     alloc: Global,
@@ -618,11 +687,12 @@ fn go_on(
     moved: Moved,
     next: u32,
     frames: &mut Frames,
+    heap: &mut Heap,
 ) -> Result<Option<Halted>, NoMemory>
     requires can { CanSettle program.now moved frames.old }
     requires roomy { AreRoomy program.now frames.old }
     ensures roomy { OnOk result (AreRoomy program.now frames.new) }
-    ensures settles { (e : Effect) (before : AFrame) (h k : Objects) → Shows own.now e next moved before frames.old.top h k → before.method ≡ frames.old.top.method → IfOk result (λ halted. Settles (move_by program.now e (activation before) (below_of frames.old)) halted (activation before ∷ below_of frames.old) frames.new h k) }
+    ensures settles { (e : Effect) (before : AFrame) (h : Objects) → Shows own.now e next moved before frames.old.top h heap.old → before.method ≡ frames.old.top.method → IfOk result (λ halted. Settles program.now (activation before) (below_of frames.old) (move_by program.now e (activation before) (below_of frames.old)) halted frames.new h heap.new) }
 {
     if let Moved::Asked(id, count) = moved {
         await_answer(count, next, frames);
@@ -635,8 +705,10 @@ fn go_on(
         Stepped::Went => Ok(None),
         Stepped::NewBox => Ok(Some(Halted::NewBox)),
         Stepped::Returned => Ok(Some(Halted::Returned)),
-        Stepped::Raised(cause) => Ok(Some(Halted::Ended(cause))),
-        Stepped::Thrown(_, _, cause) => Ok(Some(Halted::Ended(cause))),
+        Stepped::Raised(cause) => raised(alloc, program, cause, frames, heap),
+        Stepped::Thrown(object, class, cause) => {
+            threw(alloc, program, class, object, cause, frames)
+        }
         Stepped::Ended(cause) => Ok(Some(Halted::Ended(cause))),
         Stepped::AtNative(call) => {
             let _call = call;
@@ -713,7 +785,7 @@ pub fn run_counted(
             }
             Halt::Leaves(mark, moved, next) => {
                 let live = is_live(records);
-                let Ok(halted) = go_on(alloc, program, own, moved, next, frames) else {
+                let Ok(halted) = go_on(alloc, program, own, moved, next, frames, heap) else {
                     return Err(NoMemory);
                 };
                 match halted {

@@ -1,7 +1,7 @@
 -- Where control goes from an instruction is a place of the code.
 use Rattle.std.proofs.Common.{◌≡◌, ◌∙◌, sym, ap, refl, subst, ℕ, zero, suc, ◌-◌, ◌<◌, ◌≤◌, ◌==◌, Bool, true, false, not, if◌then◌else◌, true≢false, List, [], ◌∷◌, map, Option, Some, None, inl, inr, arith}
 use Rattle.std.specs.List.{list_all, AllByRecursion}
-use Rattle.std.specs.Prelude.{◌&&◌, ◌++◌}
+use Rattle.std.specs.Prelude.{◌&&◌, ◌||◌, ◌++◌, nat_lt}
 use Rattle.std.specs.Option.{IfSome}
 use Rattle.std.proofs.lemmas.Bool.{and_parts, or_cases}
 use Rattle.std.proofs.lemmas.Option.{same_Some}
@@ -9,6 +9,7 @@ use Rattle.kilim_program.specs.declared.class.Handler.{Handler}
 use Rattle.kilim_program.specs.declared.class.Method.{Method}
 use Rattle.kilim_program.specs.declared.instr.Instr.{Instr}
 use Rattle.kilim_program.specs.declared.names.MethodId.{MethodId}
+use Rattle.kilim_program.specs.Handlers.{entry_stands, table_stands}
 use Rattle.kilim_program.specs.Keeps.{Keeps, code_is_whole}
 use Rattle.kilim_program.specs.Lengths.{has_length, code_stands, code_ends, targets_stand, is_code_place, first_place, fetched, jump_targets, ends_path}
 use Rattle.kilim_program.specs.Names.{method_at, is_empty}
@@ -24,14 +25,19 @@ both : (a b : Bool) → a ≡ true → b ≡ true → (a && b) ≡ true
 both true b e f = f
 both false b e f = absurd (true≢false (sym e))
 
-none_stand : (m : Method) (hs : List Handler) → is_empty hs ≡ true → list_all (λ (h : Handler). is_code_place m.code h.at) hs ≡ true
-none_stand m [] e = refl
-none_stand m (h ∷ hs) e = absurd (true≢false (sym e))
+-- the handler of each entry that stands is an instruction
+each_stands : (m : Method) (hs : List Handler) → list_all (entry_stands m.code m.code_length) hs ≡ true → list_all (λ (h : Handler). is_code_place m.code h.at) hs ≡ true
+each_stands m [] e = refl
+each_stands m (h ∷ hs) e =
+    let parts = and_parts (entry_stands m.code m.code_length h) _ e in
+    let range = and_parts (is_code_place m.code h.start) _ parts.0 in
+    let ends = and_parts (is_code_place m.code h.end || h.end == m.code_length) _ range.1 in
+    both (is_code_place m.code h.at) _ (and_parts (nat_lt h.start h.end) _ ends.1).1 (each_stands m hs parts.1)
 
 pub whole : (p : Program) (id : MethodId) (m : Method) → Keeps p → method_at p id ≡ Some m → is_walkable m ≡ true
 whole p id m keeps there =
     both (code_is_whole m) _ (all_there code_is_whole p.methods id.0 m keeps.code there)
-    (none_stand m m.handlers (all_there (λ (n : Method). is_empty n.handlers) p.methods id.0 m keeps.handlers there))
+    (each_stands m m.handlers (all_there table_stands p.methods id.0 m keeps.handlers there))
 
 record IsInside (at : ℕ) (es : List (ℕ × Instr)) (end : ℕ) : Type 0 where
   least : at ≤ end

@@ -15,7 +15,7 @@ use Rattle.kilim_program.specs.declared.ty.Qualifier.TheVariants.{Cuttable, Free
 use Rattle.kilim_program.specs.declared.verified.Frame.{Frame}
 use Rattle.kilim_program.specs.declared.verified.VType.TheVariants.{Object}
 use Rattle.kilim_program.specs.Program.{Program}
-use Rattle.kilim_program.specs.BuiltIn.{class_id, method_id, class_type, int_type, built_in_classes, built_in_methods}
+use Rattle.kilim_program.specs.BuiltIn.{class_id, method_id, class_type, int_type, built_in_classes, built_in_fields, built_in_methods}
 use Rattle.kilim_type_spec.specs.Typed.{frames_of, listed}
 use Rattle.kilim_isolation_paths.specs.Folds.{folded}
 use Rattle.kilim_isolation_paths.specs.declared.machine.Exit.{Exit}
@@ -62,9 +62,9 @@ class name up message fields methods = record { name = name; superclass = Some (
 
 abbrev pub own_classes : List Class
 own_classes =
-    class (codes "T") 7 false (field_id 0 ∷ []) (method_id 0 ∷ method_id 1 ∷ method_id 2 ∷ method_id 3 ∷ [])
-    ∷ class (codes "M") 3 true (field_id 1 ∷ []) (method_id 4 ∷ [])
-    ∷ class (codes "N") 3 true (field_id 2 ∷ field_id 3 ∷ []) (method_id 5 ∷ [])
+    class (codes "T") 7 false (field_id 1 ∷ []) (method_id 0 ∷ method_id 1 ∷ method_id 2 ∷ method_id 3 ∷ [])
+    ∷ class (codes "M") 3 true (field_id 2 ∷ []) (method_id 4 ∷ [])
+    ∷ class (codes "N") 3 true (field_id 3 ∷ field_id 4 ∷ []) (method_id 5 ∷ [])
     ∷ []
 
 abbrev pub field : List ℕ → Ty → ℕ → Field
@@ -100,42 +100,42 @@ methods execute_end execute g_end g =
     ∷ method (codes "execute") 0 false [] Cuttable [] execute_end execute
     ∷ method (codes "g") 0 true (class_type 2 ∷ []) Safe (Cuttable ∷ []) g_end g
     ∷ method (codes "h") 0 true (class_type 2 ∷ class_type 2 ∷ []) Safe (Cuttable ∷ Safe ∷ []) 1 ((0, Return) ∷ [])
-    ∷ method (codes "<init>") 1 false (int_type ∷ []) Cuttable (Safe ∷ []) 10 ((0, Aload 0) ∷ (1, Invokespecial (method_id 6)) ∷ (4, Aload 0) ∷ (5, Iload 1) ∷ (6, Putfield (field_id 1)) ∷ (9, Return) ∷ [])
+    ∷ method (codes "<init>") 1 false (int_type ∷ []) Cuttable (Safe ∷ []) 10 ((0, Aload 0) ∷ (1, Invokespecial (method_id 6)) ∷ (4, Aload 0) ∷ (5, Iload 1) ∷ (6, Putfield (field_id 2)) ∷ (9, Return) ∷ [])
     ∷ method (codes "<init>") 2 false [] Cuttable [] 5 ((0, Aload 0) ∷ (1, Invokespecial (method_id 6)) ∷ (4, Return) ∷ [])
     ∷ built_in_methods 3
 
 abbrev pub program : ℕ → List (ℕ × Instr) → ℕ → List (ℕ × Instr) → Program
-program execute_end execute g_end g = record { classes = own_classes ++ built_in_classes 3 6; methods = methods execute_end execute g_end g; fields = own_fields; form = Plain }
+program execute_end execute g_end g = record { classes = own_classes ++ built_in_classes 3 6; methods = methods execute_end execute g_end g; fields = built_in_fields 3 ++ own_fields; form = Plain }
 
 abbrev pub none : List (ℕ × Instr)
 none = (0, Return) ∷ []
 
 abbrev pub code_put_then_use : List (ℕ × Instr)
-code_put_then_use = (0, New (class_id 1)) ∷ (3, Dup) ∷ (4, Iconst (pos 1)) ∷ (5, Invokespecial (method_id 4)) ∷ (8, Astore 1) ∷ (9, Aload 0) ∷ (10, Getfield (field_id 0)) ∷ (13, Aload 1) ∷ (14, Invokevirtual (method_id 15)) ∷ (17, Aload 1) ∷ (18, Getfield (field_id 1)) ∷ (21, Invokestatic (method_id 19)) ∷ (24, Return) ∷ []
+code_put_then_use = (0, New (class_id 1)) ∷ (3, Dup) ∷ (4, Iconst (pos 1)) ∷ (5, Invokespecial (method_id 4)) ∷ (8, Astore 1) ∷ (9, Aload 0) ∷ (10, Getfield (field_id 1)) ∷ (13, Aload 1) ∷ (14, Invokevirtual (method_id 15)) ∷ (17, Aload 1) ∷ (18, Getfield (field_id 2)) ∷ (21, Invokestatic (method_id 19)) ∷ (24, Return) ∷ []
 
 abbrev pub run_put_then_use : Walked
 run_put_then_use = along (program 25 code_put_then_use 1 none) 1 (3 ∷ 4 ∷ 5 ∷ 8 ∷ 9 ∷ 10 ∷ 13 ∷ 14 ∷ 17 ∷ 18 ∷ [])
 
 abbrev pub code_second_name : List (ℕ × Instr)
-code_second_name = (0, New (class_id 2)) ∷ (3, Dup) ∷ (4, Invokespecial (method_id 5)) ∷ (7, Astore 1) ∷ (8, Aload 1) ∷ (9, Getfield (field_id 2)) ∷ (12, Astore 2) ∷ (13, Aload 1) ∷ (14, Getfield (field_id 2)) ∷ (17, Astore 3) ∷ (18, Aload 1) ∷ (19, AconstNull) ∷ (20, Putfield (field_id 2)) ∷ (23, Aload 0) ∷ (24, Getfield (field_id 0)) ∷ (27, Aload 2) ∷ (28, Invokevirtual (method_id 15)) ∷ (31, Aload 3) ∷ (32, Getfield (field_id 3)) ∷ (35, Invokestatic (method_id 19)) ∷ (38, Return) ∷ []
+code_second_name = (0, New (class_id 2)) ∷ (3, Dup) ∷ (4, Invokespecial (method_id 5)) ∷ (7, Astore 1) ∷ (8, Aload 1) ∷ (9, Getfield (field_id 3)) ∷ (12, Astore 2) ∷ (13, Aload 1) ∷ (14, Getfield (field_id 3)) ∷ (17, Astore 3) ∷ (18, Aload 1) ∷ (19, AconstNull) ∷ (20, Putfield (field_id 3)) ∷ (23, Aload 0) ∷ (24, Getfield (field_id 1)) ∷ (27, Aload 2) ∷ (28, Invokevirtual (method_id 15)) ∷ (31, Aload 3) ∷ (32, Getfield (field_id 4)) ∷ (35, Invokestatic (method_id 19)) ∷ (38, Return) ∷ []
 
 abbrev pub run_second_name : Walked
 run_second_name = along (program 39 code_second_name 1 none) 1 (3 ∷ 4 ∷ 7 ∷ 8 ∷ 9 ∷ 12 ∷ 13 ∷ 14 ∷ 17 ∷ 18 ∷ 19 ∷ 20 ∷ 23 ∷ 24 ∷ 27 ∷ 28 ∷ 31 ∷ 32 ∷ [])
 
 abbrev pub code_cut_and_put : List (ℕ × Instr)
-code_cut_and_put = (0, New (class_id 2)) ∷ (3, Dup) ∷ (4, Invokespecial (method_id 5)) ∷ (7, Astore 1) ∷ (8, Aload 1) ∷ (9, Getfield (field_id 2)) ∷ (12, Astore 2) ∷ (13, Aload 2) ∷ (14, Getfield (field_id 2)) ∷ (17, Astore 3) ∷ (18, Aload 2) ∷ (19, AconstNull) ∷ (20, Putfield (field_id 2)) ∷ (23, Aload 1) ∷ (24, Aload 3) ∷ (25, Putfield (field_id 2)) ∷ (28, Aload 0) ∷ (29, Getfield (field_id 0)) ∷ (32, Aload 2) ∷ (33, Invokevirtual (method_id 15)) ∷ (36, Return) ∷ []
+code_cut_and_put = (0, New (class_id 2)) ∷ (3, Dup) ∷ (4, Invokespecial (method_id 5)) ∷ (7, Astore 1) ∷ (8, Aload 1) ∷ (9, Getfield (field_id 3)) ∷ (12, Astore 2) ∷ (13, Aload 2) ∷ (14, Getfield (field_id 3)) ∷ (17, Astore 3) ∷ (18, Aload 2) ∷ (19, AconstNull) ∷ (20, Putfield (field_id 3)) ∷ (23, Aload 1) ∷ (24, Aload 3) ∷ (25, Putfield (field_id 3)) ∷ (28, Aload 0) ∷ (29, Getfield (field_id 1)) ∷ (32, Aload 2) ∷ (33, Invokevirtual (method_id 15)) ∷ (36, Return) ∷ []
 
 abbrev pub run_cut_and_put : Walked
 run_cut_and_put = along (program 37 code_cut_and_put 1 none) 1 (3 ∷ 4 ∷ 7 ∷ 8 ∷ 9 ∷ 12 ∷ 13 ∷ 14 ∷ 17 ∷ 18 ∷ 19 ∷ 20 ∷ 23 ∷ 24 ∷ 25 ∷ 28 ∷ 29 ∷ 32 ∷ 33 ∷ 36 ∷ [])
 
 abbrev pub code_into_itself : List (ℕ × Instr)
-code_into_itself = (0, New (class_id 2)) ∷ (3, Dup) ∷ (4, Invokespecial (method_id 5)) ∷ (7, Astore 1) ∷ (8, Aload 1) ∷ (9, Aload 1) ∷ (10, Putfield (field_id 2)) ∷ (13, Return) ∷ []
+code_into_itself = (0, New (class_id 2)) ∷ (3, Dup) ∷ (4, Invokespecial (method_id 5)) ∷ (7, Astore 1) ∷ (8, Aload 1) ∷ (9, Aload 1) ∷ (10, Putfield (field_id 3)) ∷ (13, Return) ∷ []
 
 abbrev pub run_into_itself : Walked
 run_into_itself = along (program 14 code_into_itself 1 none) 1 (3 ∷ 4 ∷ 7 ∷ 8 ∷ 9 ∷ 10 ∷ 13 ∷ [])
 
 abbrev pub code_cuttable_stored : List (ℕ × Instr)
-code_cuttable_stored = (0, New (class_id 2)) ∷ (3, Dup) ∷ (4, Invokespecial (method_id 5)) ∷ (7, Astore 1) ∷ (8, Aload 1) ∷ (9, Aload 0) ∷ (10, Putfield (field_id 2)) ∷ (13, Return) ∷ []
+code_cuttable_stored = (0, New (class_id 2)) ∷ (3, Dup) ∷ (4, Invokespecial (method_id 5)) ∷ (7, Astore 1) ∷ (8, Aload 1) ∷ (9, Aload 0) ∷ (10, Putfield (field_id 3)) ∷ (13, Return) ∷ []
 
 abbrev pub run_cuttable_stored : Walked
 run_cuttable_stored = along (program 1 none 14 code_cuttable_stored) 2 (3 ∷ 4 ∷ 7 ∷ 8 ∷ 9 ∷ 10 ∷ 13 ∷ [])
@@ -147,7 +147,7 @@ abbrev pub run_passed_twice : Walked
 run_passed_twice = along (program 14 code_passed_twice 1 none) 1 (3 ∷ 4 ∷ 7 ∷ 8 ∷ 9 ∷ 10 ∷ 13 ∷ [])
 
 abbrev pub code_new_message : List (ℕ × Instr)
-code_new_message = (0, New (class_id 1)) ∷ (3, Dup) ∷ (4, Iconst (pos 1)) ∷ (5, Invokespecial (method_id 4)) ∷ (8, Astore 1) ∷ (9, Aload 0) ∷ (10, Getfield (field_id 0)) ∷ (13, Aload 1) ∷ (14, Invokevirtual (method_id 15)) ∷ (17, New (class_id 1)) ∷ (20, Dup) ∷ (21, Iconst (pos 2)) ∷ (22, Invokespecial (method_id 4)) ∷ (25, Astore 1) ∷ (26, Aload 1) ∷ (27, Getfield (field_id 1)) ∷ (30, Invokestatic (method_id 19)) ∷ (33, Return) ∷ []
+code_new_message = (0, New (class_id 1)) ∷ (3, Dup) ∷ (4, Iconst (pos 1)) ∷ (5, Invokespecial (method_id 4)) ∷ (8, Astore 1) ∷ (9, Aload 0) ∷ (10, Getfield (field_id 1)) ∷ (13, Aload 1) ∷ (14, Invokevirtual (method_id 15)) ∷ (17, New (class_id 1)) ∷ (20, Dup) ∷ (21, Iconst (pos 2)) ∷ (22, Invokespecial (method_id 4)) ∷ (25, Astore 1) ∷ (26, Aload 1) ∷ (27, Getfield (field_id 2)) ∷ (30, Invokestatic (method_id 19)) ∷ (33, Return) ∷ []
 
 abbrev pub run_new_message : Walked
 run_new_message = along (program 34 code_new_message 1 none) 1 (3 ∷ 4 ∷ 5 ∷ 8 ∷ 9 ∷ 10 ∷ 13 ∷ 14 ∷ 17 ∷ 20 ∷ 21 ∷ 22 ∷ 25 ∷ 26 ∷ 27 ∷ 30 ∷ 33 ∷ [])
@@ -164,7 +164,7 @@ catching frames handlers p = record p { methods = in_second frames handlers p.me
 
 -- A message is put in the range of a handler that reads it.
 abbrev pub code_put_and_catch : List (ℕ × Instr)
-code_put_and_catch = (0, New (class_id 1)) ∷ (3, Dup) ∷ (4, Iconst (pos 1)) ∷ (5, Invokespecial (method_id 4)) ∷ (8, Astore 1) ∷ (9, Aload 0) ∷ (10, Getfield (field_id 0)) ∷ (13, Aload 1) ∷ (14, Invokevirtual (method_id 15)) ∷ (17, Return) ∷ (18, Astore 2) ∷ (19, Aload 1) ∷ (20, Getfield (field_id 1)) ∷ (23, Invokestatic (method_id 19)) ∷ (26, Return) ∷ []
+code_put_and_catch = (0, New (class_id 1)) ∷ (3, Dup) ∷ (4, Iconst (pos 1)) ∷ (5, Invokespecial (method_id 4)) ∷ (8, Astore 1) ∷ (9, Aload 0) ∷ (10, Getfield (field_id 1)) ∷ (13, Aload 1) ∷ (14, Invokevirtual (method_id 15)) ∷ (17, Return) ∷ (18, Astore 2) ∷ (19, Aload 1) ∷ (20, Getfield (field_id 2)) ∷ (23, Invokestatic (method_id 19)) ∷ (26, Return) ∷ []
 
 abbrev pub program_put_and_catch : Program
 program_put_and_catch =
@@ -184,7 +184,7 @@ in_sixth m (a ∷ b ∷ c ∷ d ∷ e ∷ f ∷ ms) = a ∷ b ∷ c ∷ d ∷ e 
 in_sixth m ms = ms
 
 abbrev pub code_super_cuts : List (ℕ × Instr)
-code_super_cuts = (0, Aload 0) ∷ (1, Aload 1) ∷ (2, Putfield (field_id 2)) ∷ (5, Aload 0) ∷ (6, Invokespecial (method_id 6)) ∷ (9, Aload 1) ∷ (10, Getfield (field_id 3)) ∷ (13, Invokestatic (method_id 19)) ∷ (16, Return) ∷ []
+code_super_cuts = (0, Aload 0) ∷ (1, Aload 1) ∷ (2, Putfield (field_id 3)) ∷ (5, Aload 0) ∷ (6, Invokespecial (method_id 6)) ∷ (9, Aload 1) ∷ (10, Getfield (field_id 4)) ∷ (13, Invokestatic (method_id 19)) ∷ (16, Return) ∷ []
 
 abbrev pub program_super_cuts : Program
 program_super_cuts =

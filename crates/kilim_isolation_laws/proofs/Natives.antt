@@ -17,8 +17,8 @@ use Rattle.kilim_program.specs.declared.ty.Qualifier.{Qualifier}
 use Rattle.kilim_program.specs.declared.ty.Qualifier.TheVariants.{Cuttable, Free, Safe}
 use Rattle.kilim_program.specs.declared.ty.Ty.{Ty}
 use Rattle.kilim_program.specs.Program.{Program}
-use Rattle.kilim_program.proofs.BuiltIns.{constructors_too}
-use Rattle.kilim_program.specs.BuiltIn.{built_in_methods_in, class_id, class_type, exception_numbers}
+use Rattle.kilim_program.proofs.BuiltIns.{exceptions_too}
+use Rattle.kilim_program.specs.BuiltIn.{built_in_methods_in, class_id, class_type}
 use Rattle.kilim_program.specs.Fits.{fits_type}
 use Rattle.kilim_program.specs.Keeps.{Keeps}
 use Rattle.kilim_program.specs.Kinds.{class_kind, is_message, is_value_class}
@@ -52,16 +52,16 @@ no : {A : Type 0} → false ≡ true → A
 no e = absurd (cc)
 
 puts_so : (n : ℕ) → AllByRecursion (NamedSo (codes "put") (Puts n)) (built_in_methods_in Plain n)
-puts_so n = (no, (no, (no, (no, (no, (no, (no, (no, (no, ((λ e. (refl, refl, refl, refl, refl)), (no, (no, (no, (no, (no, (no, (no, (no, (no, (no, constructors_too (NamedSo (codes "put") (Puts n)) n exception_numbers [] (λ c. no) tt))))))))))))))))))))
+puts_so n = (no, (no, (no, (no, (no, (no, (no, (no, (no, ((λ e. (refl, refl, refl, refl, refl)), (no, (no, (no, (no, (no, (no, (no, (no, (no, (no, exceptions_too (NamedSo (codes "put") (Puts n)) n [] (λ c. no) (λ c. no) no tt))))))))))))))))))))
 
 waits_so : (n : ℕ) → AllByRecursion (NamedSo (codes "putw") (Puts n)) (built_in_methods_in Plain n)
-waits_so n = (no, (no, (no, (no, (no, (no, (no, (no, (no, (no, ((λ e. (refl, refl, refl, refl, refl)), (no, (no, (no, (no, (no, (no, (no, (no, (no, constructors_too (NamedSo (codes "putw") (Puts n)) n exception_numbers [] (λ c. no) tt))))))))))))))))))))
+waits_so n = (no, (no, (no, (no, (no, (no, (no, (no, (no, (no, ((λ e. (refl, refl, refl, refl, refl)), (no, (no, (no, (no, (no, (no, (no, (no, (no, exceptions_too (NamedSo (codes "putw") (Puts n)) n [] (λ c. no) (λ c. no) no tt))))))))))))))))))))
 
 starts_so : (n : ℕ) → AllByRecursion (NamedSo (codes "start") (Begins n Free)) (built_in_methods_in Plain n)
-starts_so n = (no, (no, (no, (no, (no, ((λ e. (refl, refl, refl, refl, refl)), (no, (no, (no, (no, (no, (no, (no, (no, (no, (no, (no, (no, (no, (no, constructors_too (NamedSo (codes "start") (Begins n Free)) n exception_numbers [] (λ c. no) tt))))))))))))))))))))
+starts_so n = (no, (no, (no, (no, (no, ((λ e. (refl, refl, refl, refl, refl)), (no, (no, (no, (no, (no, (no, (no, (no, (no, (no, (no, (no, (no, (no, exceptions_too (NamedSo (codes "start") (Begins n Free)) n [] (λ c. no) (λ c. no) no tt))))))))))))))))))))
 
 executes_so : (n : ℕ) → AllByRecursion (NamedSo (codes "execute") (λ m. Begins n Cuttable m × (is_constructor m ≡ false) × (m.is_private ≡ false))) (built_in_methods_in Plain n)
-executes_so n = (no, (no, (no, (no, (no, (no, ((λ e. ((refl, refl, refl, refl, refl), refl, refl)), (no, (no, (no, (no, (no, (no, (no, (no, (no, (no, (no, (no, (no, constructors_too (NamedSo (codes "execute") (λ m. Begins n Cuttable m × (is_constructor m ≡ false) × (m.is_private ≡ false))) n exception_numbers [] (λ c. no) tt))))))))))))))))))))
+executes_so n = (no, (no, (no, (no, (no, (no, ((λ e. ((refl, refl, refl, refl, refl), refl, refl)), (no, (no, (no, (no, (no, (no, (no, (no, (no, (no, (no, (no, (no, exceptions_too (NamedSo (codes "execute") (λ m. Begins n Cuttable m × (is_constructor m ≡ false) × (m.is_private ≡ false))) n [] (λ c. no) (λ c. no) no tt))))))))))))))))))))
 
 -- ---- by what they do
 

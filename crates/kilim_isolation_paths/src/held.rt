@@ -3,7 +3,7 @@
 ghost use Rattle.std.specs.Prelude.{◌≡◌, ◌↔◌, IsTrue, IfOk, IfSome, Some, slice_get};
 
 use crate::machine::State;
-use kilim_units::{NoMemory, no_room, unmet};
+use kilim_units::{NoMemory, no_room};
 use std::alloc::Global;
 use std::marker::Model;
 use std::snapshot::Snapshot;
@@ -33,41 +33,58 @@ fn inner<S: State>(state: &Arc<S, Global>) -> &S
     state
 }
 
-impl<S: State> Held<S> {
-    fn new(alloc: Global, state: S) -> Result<Held<S>, NoMemory>
-        ensures { IfOk result (λ held. held ≡ state) }
+// A state on a shelf: it isn't forgotten there, and entries may share it.
+#[derive(Drop)]
+struct Shelved<S: State> {
+    state: Arc<S, Global>,
+    mark: u64,
+}
+
+impl<S: State> Model for Shelved<S> {
+    ghost use Rattle.std.specs.Prelude.{◌≡◌};
+
+    ghost Value = { S };
+
+    ghost view = { λ s. s.state.value };
+
+    ghost invariant = { λ s. s.mark ≡ S.marks s.state.value };
+}
+
+impl<S: State> Shelved<S> {
+    fn new(alloc: Global, state: S) -> Result<Shelved<S>, NoMemory>
+        ensures { IfOk result (λ shelved. shelved ≡ state) }
     {
         let mark = state.mark();
-        let seen = Snapshot::of(&state);
         let Ok(state) = Arc::new(alloc, state) else {
             return Err(NoMemory);
         };
-        Ok(Held {
-            state: Some(state),
-            mark,
-            seen,
-        })
+        Ok(Shelved { state, mark })
     }
 
-    // The same, where it isn't forgotten.
+    // Whether it is this state.
+    fn is(&self, state: &S) -> bool
+        ensures { IsTrue result ↔ (self.now ≡ state.now) }
+    {
+        self.mark == state.mark() && inner(&self.state).is_same(state)
+    }
+
+    // The same, for an entry.
     fn share(&self) -> Result<Held<S>, NoMemory>
         ensures { IfOk result (λ held. held ≡ self.now) }
     {
-        let Some(state) = &self.state else {
-            // unmet: what stands on a shelf isn't forgotten
-            return Err(unmet());
-        };
-        let Ok(again) = Arc::try_clone(state) else {
+        let Ok(again) = Arc::try_clone(&self.state) else {
             return Err(NoMemory);
         };
-        let seen = Snapshot::of(inner(state));
+        let seen = Snapshot::of(inner(&self.state));
         Ok(Held {
             state: Some(again),
             mark: self.mark,
             seen,
         })
     }
+}
 
+impl<S: State> Held<S> {
     /// The state, unless it is forgotten.
     pub fn value(&self) -> Option<&S>
         ensures { IfSome result (λ state. state.now ≡ self.now) }
@@ -104,16 +121,16 @@ impl<S: State> Held<S> {
 #[derive(Drop)]
 pub struct Shelves<S: State> {
     alloc: Global,
-    shelves: Vec<Vec<Held<S>>>,
+    shelves: Vec<Vec<Shelved<S>>>,
     weight: usize,
 }
 
 // Where a state stands on a shelf.
-fn find<S: State>(shelf: &[Held<S>], state: &S) -> Option<usize>
+fn find<S: State>(shelf: &[Shelved<S>], state: &S) -> Option<usize>
     ensures { IfSome result (λ at. slice_get shelf.now at ≡ Some state.now) }
 {
-    for (at, held) in shelf.iter().enumerate() {
-        if let Ok(true) = held.is(state) {
+    for (at, shelved) in shelf.iter().enumerate() {
+        if shelved.is(state) {
             return Some(at);
         }
     }
@@ -121,16 +138,20 @@ fn find<S: State>(shelf: &[Held<S>], state: &S) -> Option<usize>
 }
 
 // The state, which is put on a shelf too.
-fn shelved<S: State>(alloc: Global, shelf: &mut Vec<Held<S>>, state: S) -> Result<Held<S>, NoMemory>
+fn put_on<S: State>(
+    alloc: Global,
+    shelf: &mut Vec<Shelved<S>>,
+    state: S,
+) -> Result<Held<S>, NoMemory>
     ensures { IfOk result (λ held. held ≡ state) }
 {
-    let Ok(held) = Held::new(alloc, state) else {
+    let Ok(shelved) = Shelved::new(alloc, state) else {
         return Err(NoMemory);
     };
-    let Ok(again) = held.share() else {
+    let Ok(held) = shelved.share() else {
         return Err(NoMemory);
     };
-    let Ok(()) = shelf.push(again) else {
+    let Ok(()) = shelf.push(shelved) else {
         return Err(NoMemory);
     };
     Ok(held)
@@ -170,7 +191,10 @@ impl<S: State> Shelves<S> {
     {
         let count = self.shelves.len();
         if count == 0 {
-            return Held::new(self.alloc, state);
+            let Ok(alone) = Shelved::new(self.alloc, state) else {
+                return Err(NoMemory);
+            };
+            return alone.share();
         }
         let at = (state.mark() % count as u64) as usize;
         let shelf = &mut self.shelves[at];
@@ -179,7 +203,7 @@ impl<S: State> Shelves<S> {
         }
         self.weight = self.weight.saturating_add(state.weight());
         let shelf = &mut self.shelves[at];
-        shelved(self.alloc, shelf, state)
+        put_on(self.alloc, shelf, state)
     }
 
     /// Nothing is on the shelves.

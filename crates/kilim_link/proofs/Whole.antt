@@ -4,10 +4,11 @@ use Rattle.std.specs.List.{AllByRecursion}
 use Rattle.kilim_class_file.specs.declared.class_file.ClassFile.{ClassFile}
 use Rattle.kilim_class_file.specs.Text.{ClassFits}
 use Rattle.kilim_program.specs.declared.class.Class.{Class}
+use Rattle.kilim_program.specs.declared.class.Field.{Field}
 use Rattle.kilim_program.specs.declared.class.Form.{Form}
 use Rattle.kilim_program.specs.declared.class.Method.{Method}
 use Rattle.kilim_program.specs.declared.names.ClassId.{ClassId}
-use Rattle.kilim_program.specs.BuiltIn.{built_in_classes_in, built_in_methods_in}
+use Rattle.kilim_program.specs.BuiltIn.{built_in_classes_in, built_in_fields, built_in_methods_in}
 use Rattle.kilim_link_spec.specs.Linked.{Linked, program_of, numbered, members, linked_class, linked_method}
 use Rattle.kilim_link_spec.specs.Types.{itself}
 use Rattle.kilim_link_spec.specs.World.{world_of}
@@ -29,8 +30,8 @@ module _ (files : List ClassFile) (form : Form) (parts : Parts) (made : Made fil
       let few = members_few (λ file. file.methods) (linked_method (world_of files form)) (λ file f. f.parts.methods.0) files fit in
       omega arith
 
-  pub is_linked : (classes : List Class) (methods : List Method) → classes ≡ parts.classes ++ built_in_classes_in form (length parts.classes) (length parts.methods)
-      → methods ≡ parts.methods ++ built_in_methods_in form (length files) → Linked files form (record { classes = classes; methods = methods; fields = parts.fields; form = form })
+  pub is_linked : (classes : List Class) (methods : List Method) (fields : List Field) → classes ≡ parts.classes ++ built_in_classes_in form (length parts.classes) (length parts.methods)
+      → methods ≡ parts.methods ++ built_in_methods_in form (length files) → fields ≡ built_in_fields (length files) ++ parts.fields → Linked files form (record { classes = classes; methods = methods; fields = fields; form = form })
   unfolding program_of
-  is_linked classes methods all_classes all_methods =
-      rw (made.classes, made.fields, made.methods, all_classes, all_methods, classes_are_files) refl
+  is_linked classes methods fields all_classes all_methods all_fields =
+      rw (made.classes, made.fields, made.methods, all_classes, all_methods, all_fields, classes_are_files) refl

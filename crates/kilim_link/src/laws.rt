@@ -3,8 +3,9 @@
 ghost use Rattle.kilim_link.specs.Keeping.{LinksKeep, NoFaultIsAProgram};
 
 use kilim_link_laws::code_laws::{
-    code_is_whole, constants_fit, frames_are_proper, frames_increase, ids_are_places,
-    methods_are_sound, no_fault_links, no_task_arrays, none_has_handlers,
+    catches_are_there, code_is_whole, constants_fit, frames_are_proper, frames_increase,
+    ids_are_places, methods_are_sound, no_fault_links, no_task_arrays, none_pauses_with_table,
+    tables_stand,
 };
 use kilim_link_laws::{
     built_in_is_last, fields_fit, members_are_owned, names_differ, none_is_both,
@@ -21,7 +22,9 @@ pub fn links_keep()
     code_is_whole();
     frames_increase();
     frames_are_proper();
-    none_has_handlers();
+    tables_stand();
+    catches_are_there();
+    none_pauses_with_table();
     built_in_is_last();
     members_are_owned();
     names_differ();

@@ -3,7 +3,7 @@
 ghost use Rattle.std.specs.Prelude.{◌≡◌, ◌<◌, ◌≤◌, ◌^◌, ◌++◌, [], length, IfOk};
 ghost use Rattle.std.specs.List.{AllByRecursion};
 ghost use Rattle.kilim_class_file.specs.Text.{ClassFits};
-ghost use Rattle.kilim_program.specs.BuiltIn.{built_in_classes_in, built_in_methods_in};
+ghost use Rattle.kilim_program.specs.BuiltIn.{built_in_classes_in, built_in_fields, built_in_methods_in};
 ghost use Rattle.kilim_link_spec.specs.Faults.{link_faults};
 ghost use Rattle.kilim_link_spec.specs.Linked.{Linked, program_with};
 ghost use Rattle.kilim_link_spec.specs.World.{world_of};
@@ -14,7 +14,7 @@ use kilim_class_file::ClassFile;
 use kilim_link_faults::first_fault;
 use kilim_link_members::{linked_classes, linked_fields, linked_methods};
 use kilim_link_spec::{LinkFault, linked_in_parts, none_is_named};
-use kilim_link_views::built_ins::{built_in_classes, built_in_methods};
+use kilim_link_views::built_ins::{built_in_classes, built_in_fields, built_in_methods};
 use kilim_link_world::World;
 use kilim_program::{Class, Field, Form, Method, Program};
 use kilim_units::{NoMemory, Seq};
@@ -103,6 +103,22 @@ fn all_methods(
     Ok(Seq::from_vec(methods))
 }
 
+// All fields: the built-in one, and those of the files behind it.
+fn all_fields(alloc: Global, own: Seq<Field>, classes: u32) -> Result<Seq<Field>, NoMemory>
+    requires { classes < 2 ^ 31 }
+    ensures { IfOk result (λ fields. fields ≡ built_in_fields classes ++ own) }
+{
+    let Ok(built_in) = built_in_fields(alloc, classes) else {
+        return Err(NoMemory);
+    };
+    let mut fields = built_in.into_vec();
+    let mut own = own.into_vec();
+    let Ok(()) = fields.append(&mut own) else {
+        return Err(NoMemory);
+    };
+    Ok(Seq::from_vec(fields))
+}
+
 // The program of files without a fault.
 fn program_of(
     alloc: Global,
@@ -127,10 +143,13 @@ fn program_of(
     let Ok(methods) = all_methods(alloc, form, parts.methods, files.len() as u32) else {
         return Err(NoMemory);
     };
+    let Ok(fields) = all_fields(alloc, parts.fields, files.len() as u32) else {
+        return Err(NoMemory);
+    };
     Ok(Program {
         classes,
         methods,
-        fields: parts.fields,
+        fields,
         form,
     })
 }

@@ -7,7 +7,7 @@ ghost use Rattle.std.specs.Option.{option_copied};
 ghost use Rattle.kilim_link_mentions.specs.Decoded.{code_found};
 ghost use Rattle.kilim_link_spec.specs.Code.{decoded};
 ghost use Rattle.kilim_link_spec.specs.Linked.{code_attribute, first_of};
-ghost use Rattle.kilim_link_spec.specs.LeftOut.{decoded_in, has_fiber_name, has_handlers, has_initializer, has_interface, has_method_flag, has_pausable_constructor, has_row, is_fiber, left_out_op, left_out_ops};
+ghost use Rattle.kilim_link_spec.specs.LeftOut.{decoded_in, has_fiber_name, has_initializer, has_interface, has_method_flag, has_pausable_constructor, has_pausable_handlers, has_row, is_fiber, left_out_op, left_out_ops};
 ghost use Rattle.kilim_link_spec.specs.Mentions.{class_names};
 ghost use Rattle.kilim_link_spec.specs.Qualified.{has_fiber, is_constructor_name};
 ghost use Rattle.kilim_link_spec.specs.World.{class_text, interface_names, is_pausable, member_name};
@@ -142,12 +142,18 @@ fn has_row(code: Option<&Code>) -> bool
     }
 }
 
-/// Whether the code of some method has an exception table with a row (JVMS 4.7.3), also where it has a fault.
-pub fn has_handlers(file: &ClassFile) -> bool
-    ensures { result ≡ has_handlers file.now }
+fn is_pausable_with_row(file: &ClassFile, method: &MemberInfo) -> bool
+    ensures { result ≡ (has_row (code_attribute method.now) && is_pausable file.now.constant_pool method.now) }
+{
+    has_row(code_attribute(method)) && is_pausable(&file.constant_pool, method)
+}
+
+/// Whether the code of some method that pauses has an exception table with a row (JVMS 4.7.3), also where it has a fault.
+pub fn has_pausable_handlers(file: &ClassFile) -> bool
+    ensures { result ≡ has_pausable_handlers file.now }
 {
     for method in file.methods.as_slice() {
-        if has_row(code_attribute(method)) {
+        if is_pausable_with_row(file, method) {
             return true;
         }
     }

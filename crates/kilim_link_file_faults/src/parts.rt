@@ -12,8 +12,8 @@ ghost use Rattle.kilim_link_file_faults.specs.Shapes.{shape_of};
 
 use crate::fields::has_static_field;
 use crate::methods::{
-    has_fiber_name, has_handlers, has_initializer, has_interface, has_method_flag,
-    has_pausable_constructor, left_out_op,
+    has_fiber_name, has_initializer, has_interface, has_method_flag, has_pausable_constructor,
+    has_pausable_handlers, left_out_op,
 };
 use crate::parameters::has_other_parameters;
 use crate::types::{Shape, has_float, has_task_array, shapes};
@@ -74,7 +74,7 @@ fn first_passed(
         (has_interface(file), LeftOutPart::Interface),
         (!has_super, LeftOutPart::NoSuperFlag),
         (pausable_constructor, LeftOutPart::PausableConstructor),
-        (has_handlers(file), LeftOutPart::Handlers),
+        (has_pausable_handlers(file), LeftOutPart::PausableHandlers),
         (task_array, LeftOutPart::TaskArray),
         (has_fiber_name(world, file, names), LeftOutPart::Fiber),
         (other_parameters, LeftOutPart::ParameterAnnotations),

@@ -23,7 +23,7 @@ use Rattle.kilim_program.specs.declared.class.Form.{Form}
 use Rattle.kilim_program.specs.declared.class.Method.{Method}
 use Rattle.kilim_program.specs.declared.names.ClassId.{ClassId}
 use Rattle.kilim_program.specs.Program.{Program}
-use Rattle.kilim_program.specs.BuiltIn.{built_in_classes_in, built_in_methods_in, class_id}
+use Rattle.kilim_program.specs.BuiltIn.{built_in_classes_in, built_in_fields, built_in_methods_in, class_id}
 use Rattle.kilim_program.specs.Keeps.{EndsBuiltIn}
 use Rattle.kilim_program.specs.Same.{same_flag}
 use Rattle.kilim_link_spec.specs.Code.{code_of, decoded}
@@ -140,8 +140,10 @@ module _ (files : List ClassFile) (form : Form) (classes : List Class) (fields :
       record {
         own_classes = classes;
         own_methods = methods;
+        own_fields = fields;
         classes = ap (λ (n : ℕ). classes ++ built_in_classes_in form n (length methods)) (sym count);
         methods = ap (λ (n : ℕ). methods ++ built_in_methods_in form n) (sym count);
+        fields = ap (λ (n : ℕ). built_in_fields n ++ fields) (sym count);
         bodies = bodies;
       }
 

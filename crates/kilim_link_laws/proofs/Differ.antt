@@ -1,7 +1,7 @@
 -- No two classes have one name, and no two members of a class one name and descriptor.
-use Rattle.std.proofs.Common.{◌≡◌, ℕ, zero, suc, ◌+◌, ◌<◌, ◌≤◌, Bool, true, false, ◌&&◌, ◌==◌, List, [], ◌∷◌, length, slice_get, Option, Some, None, option_map, bytes_eq, refl, sym, ap, ◌∙◌, eqb-true, arith}
+use Rattle.std.proofs.Common.{◌≡◌, ℕ, zero, suc, ◌+◌, ◌<◌, ◌≤◌, Bool, true, false, ◌&&◌, ◌==◌, not, List, [], ◌∷◌, length, slice_get, Option, Some, None, option_map, bytes_eq, codes, refl, sym, ap, ◌∙◌, eqb-true, arith}
 use Rattle.std.specs.List.{list_any}
-use Rattle.std.proofs.lemmas.Bool.{and_from, and_parts, both_ways, false_from_ne_true, or_parts}
+use Rattle.std.proofs.lemmas.Bool.{and_from, and_parts, both_ways, false_from_ne_true, or_from, or_parts}
 use Rattle.std.proofs.lemmas.Option.{same_Some, none-some, slice_get_within}
 use Rattle.kilim_lemmas.proofs.Lists.{front_none, rest_none, map_none, cond_none}
 use Rattle.kilim_lemmas.proofs.Texts.{text_is, same_text}
@@ -13,7 +13,7 @@ use Rattle.kilim_program.specs.declared.class.Form.{Form}
 use Rattle.kilim_program.specs.declared.class.Method.{Method}
 use Rattle.kilim_program.specs.declared.names.ClassId.{ClassId}
 use Rattle.kilim_program.specs.Program.{Program}
-use Rattle.kilim_program.specs.BuiltIn.{built_in_methods_in, class_id}
+use Rattle.kilim_program.specs.BuiltIn.{built_in_methods_in, class_id, class_type}
 use Rattle.kilim_program.specs.Keeps.{names_differ}
 use Rattle.kilim_program.specs.Same.{all_differ, same_field, same_method, same_result, same_signature, same_type, same_types}
 use Rattle.kilim_link_spec.specs.Faults.{declared_twice, repeated, repeated_names, same_member}
@@ -155,8 +155,29 @@ module _ (files : List ClassFile) (form : Form) (classes : List Class) (fields :
       apart (λ file. file.fields) (linked_field w) files (λ n file at. (none_twice w file (class_id n) (l.none n file at)).fields) i j a b less m o class names
       (same_field_text files form _ _ f.text g.text f.ty g.ty f.text_is g.text_is f.ty_is g.ty_is types)
 
-  pub fields_differ : all_differ same_field fields ≡ true
-  fields_differ = differ_by_places same_field fields (λ i j a b less first second. false_from_ne_true (same_field a b) (λ e. two_fields i j a b less first second (same_field_is a b e)))
+  own_fields_differ : all_differ same_field fields ≡ true
+  own_fields_differ = differ_by_places same_field fields (λ i j a b less first second. false_from_ne_true (same_field a b) (λ e. two_fields i j a b less first second (same_field_is a b e)))
+
+  field_owner : (i : ℕ) (a : Field) → slice_get fields i ≡ Some a → a.owner.0 < length files
+  field_owner i a there =
+      let m = member_made (λ file. file.fields) (linked_field w) files fields l.fields_are i a there in
+      let f = linked_field_is w m.file (class_id m.class) m.member a m.made in
+      let owner : m.class ≡ a.owner.0 = ap (λ (x : Field). x.owner.0) f.is in
+      let within = slice_get_within files m.class m.file m.file_at in
+      omega (arith, owner, within)
+
+  -- the built-in field is of a class behind those of the files
+  first_differs : (built : Field) → length files ≤ built.owner.0 → (xs : List Field) → ((i : ℕ) (a : Field) → slice_get xs i ≡ Some a → a.owner.0 < length files) → list_any (same_field built) xs ≡ false
+  first_differs built late [] below = refl
+  first_differs built late (x ∷ xs) below =
+      or_from _ _ (false_from_ne_true (same_field built x) (λ e. let owners = (same_field_is built x e).owners in let less = below 0 x refl in omega (arith, owners, less, late)))
+      (first_differs built late xs (λ i a at. below (suc i) a at))
+
+  abbrev text_field : Field
+  text_field = record { name = codes "message"; ty = class_type (length files + 1); owner = class_id (length files + 7); is_static = false; is_private = true; constant = None }
+
+  pub fields_differ : all_differ same_field p.fields ≡ true
+  fields_differ = and_from _ _ (ap not (first_differs text_field (omega arith) fields field_owner)) own_fields_differ
 
   -- ---- methods
 

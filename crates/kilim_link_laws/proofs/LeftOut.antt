@@ -4,7 +4,7 @@ use Rattle.kilim_lemmas.proofs.Lists.{front_none, rest_none, map_none}
 use Rattle.kilim_class_file.specs.declared.class_file.ClassFile.{ClassFile}
 use Rattle.kilim_program.specs.declared.names.ClassId.{ClassId}
 use Rattle.kilim_link_spec.specs.declared.fault.LeftOutPart.{LeftOutPart}
-use Rattle.kilim_link_spec.specs.Faults.{has_fiber_name, has_float, has_handlers, has_initializer, has_interface, has_method_flag, has_other_parameters, has_pausable_constructor, has_static_field, has_task_array, if_left, left_out, left_out_ops, left_out_parts}
+use Rattle.kilim_link_spec.specs.Faults.{has_fiber_name, has_float, has_initializer, has_interface, has_method_flag, has_other_parameters, has_pausable_constructor, has_pausable_handlers, has_static_field, has_task_array, if_left, left_out, left_out_ops, left_out_parts}
 use Rattle.kilim_link_spec.specs.Laws.{NoProblem}
 use Rattle.kilim_link_spec.specs.World.{World, acc_native, acc_super, acc_synchronized, has_flag}
 
@@ -22,7 +22,7 @@ pub record NothingLeftOut (w : World) (file : ClassFile) : Type 0 where
   pub interface : has_interface file ≡ false
   pub super_flag : not (has_flag acc_super file.access_flags) ≡ false
   pub constructor : has_pausable_constructor file ≡ false
-  pub handlers : has_handlers file ≡ false
+  pub handlers : has_pausable_handlers file ≡ false
   pub task_array : has_task_array w file ≡ false
   pub fiber : has_fiber_name w file ≡ false
   pub parameters : has_other_parameters file ≡ false

@@ -1,5 +1,5 @@
 -- An overriding method agrees with what it overrides.
-use Rattle.std.proofs.Common.{◌≡◌, ℕ, ◌+◌, Bool, true, false, ◌&&◌, not, nat_lt, List, [], ◌∷◌, map, length, slice_get, Option, Some, None, filter, bytes_eq, codes, refl, sym, ap, ◌∙◌, ltb-true, arith}
+use Rattle.std.proofs.Common.{◌≡◌, ℕ, ◌+◌, Bool, true, false, ◌&&◌, ◌||◌, not, nat_lt, List, [], ◌∷◌, map, length, slice_get, Option, Some, None, filter, bytes_eq, codes, refl, sym, ap, ◌∙◌, ltb-true, arith}
 use Rattle.std.specs.List.{flat_map, list_all}
 use Rattle.std.proofs.lemmas.Bool.{and_from, and_parts, both_ways, not-false, not-true, not_from_false, or_left, or_right}
 use Rattle.kilim_lemmas.proofs.Lists.{map_none, get_some}
@@ -15,7 +15,7 @@ use Rattle.kilim_program.specs.declared.names.ClassId.{ClassId}
 use Rattle.kilim_program.specs.declared.names.MethodId.{MethodId}
 use Rattle.kilim_program.specs.Program.{Program}
 use Rattle.kilim_program.specs.BuiltIn.{built_in_classes_in, built_in_methods_in, class_id}
-use Rattle.kilim_program.specs.Keeps.{agrees as method_agrees, agrees_with, ancestors_of, each_class_from, overriding_agrees, overrides}
+use Rattle.kilim_program.specs.Keeps.{agrees as method_agrees, agrees_with, ancestors_of, overriding_agrees, overrides}
 use Rattle.kilim_program.specs.Names.{class_at, method_at, methods_of}
 use Rattle.kilim_program.specs.Same.{is_constructor, same_flag, same_signature}
 use Rattle.kilim_link_spec.specs.Faults.{agrees, differs_from, override_differs, overrides_badly, same_qualified}
@@ -35,7 +35,6 @@ use Rattle.kilim_link_laws.proofs.Lists.{Left, Right, Side, all_at, all_by_place
 use Rattle.kilim_link_laws.proofs.Members.{member_made}
 use Rattle.kilim_link_laws.proofs.Origins as origins
 use Rattle.kilim_link_laws.proofs.Origins.{built_in_of, length-built_in}
-use Rattle.kilim_link_laws.proofs.Outline.{by_table}
 use Rattle.kilim_link_laws.proofs.Positions as positions
 use Rattle.kilim_link_laws.proofs.Resolved.{same_descriptor}
 use Rattle.kilim_link_laws.proofs.Seen.{Seen, seen_own}
@@ -94,13 +93,23 @@ abbrev constructs : Option Method → Bool
 constructs None = false
 constructs (Some m) = is_constructor m
 
--- the classes above one are built in too, and their methods are constructors
+-- a built-in class with constructors alone
 abbrev constructs_alone : Form → ClassId → Bool
 constructs_alone form d = nat_lt d.0 (length (built_in_classes_in form 0 0)) && list_all (λ (id : MethodId). constructs (method_at (built_ins form) id)) (methods_of (built_ins form) d)
 
-ancestors_construct : (form : Form) → each_class_from (λ c class. list_all (constructs_alone form) (ancestors_of (built_ins form) c)) 0 (built_in_classes_in form 0 0) ≡ true
-ancestors_construct Plain = refl
-ancestors_construct Woven = refl
+-- so a built-in method overrides nothing: it is a constructor, or those above its class are
+overrides_none : Form → Method → Bool
+overrides_none form m = is_constructor m || list_all (constructs_alone form) (ancestors_of (built_ins form) m.owner)
+
+methods_open : (form : Form) → list_all (overrides_none form) (built_in_methods_in form 0) ≡ true
+unfolding overrides_none
+methods_open Plain = refl
+methods_open Woven = refl
+
+-- a constructor overrides nothing
+constructor_agrees : (a : Method) → is_constructor a ≡ true → (o : Option Method) → agrees_with a o ≡ true
+constructor_agrees a constructor None = refl
+constructor_agrees a constructor (Some b) = agrees_where a b (λ e. absurd (both_ways (is_constructor a) (overrides_is a b e).no_constructor constructor))
 
 -- nothing overrides a constructor
 no_override : (a b : Method) → is_constructor b ≡ true → agrees_with a (Some b) ≡ true
@@ -108,6 +117,10 @@ no_override a b constructor = agrees_where a b (λ e.
     let o = overrides_is a b e in
     let same = same_signature_is a b o.same in
     absurd (both_ways (is_constructor a) o.no_constructor (ap (λ (name : List ℕ). bytes_eq name (codes "<init>")) same.names ∙ constructor)))
+
+all_of : {A : Type 0} (test : A → Bool) (xs : List A) → ((x : A) → test x ≡ true) → list_all test xs ≡ true
+all_of test [] each = refl
+all_of test (x ∷ xs) each = and_from (test x) (list_all test xs) (each x) (all_of test xs each)
 
 module _ (files : List ClassFile) (form : Form) (classes : List Class) (fields : List Field) (methods : List Method) (l : Linking files form classes fields methods) where
   abbrev w : World
@@ -185,20 +198,33 @@ module _ (files : List ClassFile) (form : Form) (classes : List Class) (fields :
       all_append (λ (id : MethodId). agrees_with a (method_at p id)) (methods_of p (shift_class len d)) (flat_map (methods_of p) (map (shift_class len) ds)) (class_open a d parts.0) (line_open a ds parts.1)
 
   -- one of a built-in class
-  fits_of_class : (m : Method) (c : ℕ) (class : Class) → slice_get (built_in_classes_in form len (length methods)) c ≡ Some class → m.owner ≡ class_id (len + c) → fits m ≡ true
-  fits_of_class m c class there owner =
+  fits_of_class : (m : Method) (c : ℕ) (class : Class) → slice_get (built_in_classes_in form len (length methods)) c ≡ Some class → m.owner ≡ class_id (len + c) → list_all (constructs_alone form) (ancestors_of (built_ins form) (class_id c)) ≡ true → fits m ≡ true
+  fits_of_class m c class there owner alone =
       let q = built_in_of form len (length methods) c class there in
       ap (λ (d : ClassId). list_all (λ (id : MethodId). agrees_with m (method_at p id)) (flat_map (methods_of p) (ancestors_of p d))) owner
       ∙ (ap (λ (ds : List ClassId). list_all (λ (id : MethodId). agrees_with m (method_at p id)) (flat_map (methods_of p) ds)) (origins.built_ancestors files form classes fields methods l c q.of q.at)
-      ∙ line_open m (ancestors_of (built_ins form) (class_id c)) (by_table form (λ c class. list_all (constructs_alone form) (ancestors_of (built_ins form) c)) (ancestors_construct form) c q.of q.at))
+      ∙ line_open m (ancestors_of (built_ins form) (class_id c)) alone)
 
   built_fits : (k : ℕ) (m : Method) → slice_get (built_in_methods_in form len) k ≡ Some m → fits m ≡ true
-  built_fits k m there =
-      let o = built_in_method_of form len k m there in
-      let count = length-built_in form len (length methods) in
-      let less = ltb-true o.of.owner.0 (length (built_in_classes_in form 0 0)) (all_at (λ (x : Method). nat_lt x.owner.0 (length (built_in_classes_in form 0 0))) (built_in_methods_in form 0) (owners_there form) k o.of o.at) in
-      let class = get_some (built_in_classes_in form len (length methods)) o.of.owner.0 (omega (arith, count, less)) in
-      fits_of_class m o.of.owner.0 class.0 class.1 (ap (λ (x : Method). x.owner) (sym o.is))
+  unfolding overrides_none
+  built_fits k m there = by (is_constructor (built_in_method_of form len k m there).of) refl
+    where
+      below : list_all (constructs_alone form) (ancestors_of (built_ins form) (built_in_method_of form len k m there).of.owner) ≡ true → fits m ≡ true
+      below alone =
+          let o = built_in_method_of form len k m there in
+          let count = length-built_in form len (length methods) in
+          let less = ltb-true o.of.owner.0 (length (built_in_classes_in form 0 0)) (all_at (λ (x : Method). nat_lt x.owner.0 (length (built_in_classes_in form 0 0))) (built_in_methods_in form 0) (owners_there form) k o.of o.at) in
+          let class = get_some (built_in_classes_in form len (length methods)) o.of.owner.0 (omega (arith, count, less)) in
+          fits_of_class m o.of.owner.0 class.0 class.1 (ap (λ (x : Method). x.owner) (sym o.is)) alone
+
+      by : (z : Bool) → is_constructor (built_in_method_of form len k m there).of ≡ z → fits m ≡ true
+      by true e =
+          let o = built_in_method_of form len k m there in
+          all_of (λ (id : MethodId). agrees_with m (method_at p id)) (flat_map (methods_of p) (ancestors_of p m.owner)) (λ id. constructor_agrees m (ap is_constructor (sym o.is) ∙ e) (method_at p id))
+      by false e =
+          let o = built_in_method_of form len k m there in
+          let either = all_at (overrides_none form) (built_in_methods_in form 0) (methods_open form) k o.of o.at in
+          below (sym (ap (λ (z : Bool). z || list_all (constructs_alone form) (ancestors_of (built_ins form) o.of.owner)) e) ∙ either)
 
   fits_by : (j : ℕ) (m : Method) → Side methods (built_in_methods_in form len) j m → fits m ≡ true
   fits_by j m (Left e) = own_fits j m e

@@ -1,8 +1,8 @@
 -- A class's members are those that name it as owner, in their order.
-use Rattle.std.proofs.Common.{◌≡◌, ℕ, suc, ◌+◌, ◌<◌, ◌≤◌, Bool, true, ◌&&◌, List, [], ◌∷◌, ◌++◌, map, length, slice_get, Option, Some, bytes_eq, refl, sym, ap, subst, ◌∙◌, ⊎_elim, ne_eqb, ◌==◌, arith}
-use Rattle.std.specs.List.{list_all, range_with_len}
-use Rattle.kilim_program.specs.Names.{is_empty}
-use Rattle.std.proofs.lemmas.Bool.{and_from, cond-false, cases_order}
+use Rattle.std.proofs.Common.{◌≡◌, ◌⊎◌, ℕ, zero, suc, ◌+◌, ◌<◌, ◌≤◌, Bool, true, false, cond, ◌&&◌, if◌then◌else◌, List, [], ◌∷◌, ◌++◌, map, length, slice_get, Option, Some, bytes_eq, refl, sym, ap, subst, ◌∙◌, ⊎_elim, inl, inr, ne_eqb, ◌==◌, arith}
+use Rattle.std.specs.List.{range_with_len}
+use Rattle.kilim_program.proofs.BuiltIns.{each_class_at}
+use Rattle.std.proofs.lemmas.Bool.{and_from, cond-false, cases_order, eq-eqb}
 use Rattle.std.proofs.lemmas.List.{append-nil, length-map}
 use Rattle.std.proofs.lemmas.Option.{same_Some, slice_get_within}
 use Rattle.kilim_lemmas.proofs.Texts.{text_is, same_text}
@@ -27,7 +27,7 @@ use Rattle.kilim_link_laws.specs.Facts.{MembersAreOwned}
 use Rattle.kilim_link_laws.proofs.Bridge.{LinkedClass}
 use Rattle.kilim_link_laws.proofs.LinkedMembers.{linked_field_is, linked_method_is}
 use Rattle.kilim_link_laws.proofs.Linking.{Linking, linking}
-use Rattle.kilim_link_laws.proofs.Lists.{all_at, mapped_at}
+use Rattle.kilim_link_laws.proofs.Lists.{mapped_at}
 use Rattle.kilim_link_laws.proofs.Made.{each_length}
 use Rattle.kilim_link_laws.proofs.Members.{MemberMade, before, length-made, member_made}
 use Rattle.kilim_link_laws.proofs.Origins as origins
@@ -104,13 +104,38 @@ pub numbers_shifted : (form : Form) (first method : ℕ) → map numbers_of (bui
 numbers_shifted Plain first method = refl
 numbers_shifted Woven first method = refl
 
-no_fields : (form : Form) (first method : ℕ) → list_all (λ (class : Class). is_empty class.fields) (built_in_classes_in form first method) ≡ true
-no_fields Plain first method = refl
-no_fields Woven first method = refl
+-- `java/lang/Throwable`, the eighth class, has the built-in field, and no other class has one
+abbrev first_field_of : ℕ → List ℕ
+first_field_of k = if 7 == k then 0 ∷ [] else []
 
-none_mapped : {A : Type 0} (f : A → ℕ) (xs : List A) → is_empty xs ≡ true → map f xs ≡ []
-none_mapped f [] e = refl
-none_mapped f (x ∷ xs) e = absurd (cc)
+field_table : (form : Form) (first method : ℕ) → each_class_from (λ c class. bytes_eq (map (λ (f : FieldId). f.0) class.fields) (first_field_of c.0)) 0 (built_in_classes_in form first method) ≡ true
+field_table Plain first method = refl
+field_table Woven first method = refl
+
+-- ---- fields behind the first one
+
+owned_later : {A : Type 0} (owner : A → ClassId) (c : ClassId) (n : ℕ) (xs : List A) → owned_from owner c (suc n) xs ≡ map suc (owned_from owner c n xs)
+owned_later owner c n [] = refl
+owned_later owner c n (x ∷ xs) = by ((owner x).0 == c.0) (owned_later owner c (suc n) xs)
+  where
+    by : (z : Bool) → owned_from owner c (suc (suc n)) xs ≡ map suc (owned_from owner c (suc n) xs) → cond z (suc n ∷ owned_from owner c (suc (suc n)) xs) (owned_from owner c (suc (suc n)) xs) ≡ map suc (cond z (n ∷ owned_from owner c (suc n) xs) (owned_from owner c (suc n) xs))
+    by true again = ap (λ (ns : List ℕ). suc n ∷ ns) again
+    by false again = again
+
+range_later : (a n : ℕ) → range_with_len (suc a) n ≡ map suc (range_with_len a n)
+range_later a zero = refl
+range_later a (suc n) =
+    let next : suc a + 1 ≡ suc (a + 1) = omega arith in
+    ap (λ (ns : List ℕ). suc a ∷ ns) (ap (λ (k : ℕ). range_with_len k n) next ∙ range_later (a + 1) n)
+
+-- the first number that is owned, by whether the number of the class is so far behind the first built-in class
+first_owned : (len k : ℕ) → (len + 7 == len + k) ≡ (7 == k)
+first_owned len k = by (cases_order 7 k)
+  where
+    by : (7 ≡ k) ⊎ ((7 < k) ⊎ (k < 7)) → (len + 7 == len + k) ≡ (7 == k)
+    by (inl e) = subst (λ (n : ℕ). (len + 7 == len + n) ≡ (7 == n)) e (eq-eqb (len + 7) (len + 7) refl)
+    by (inr other) = let ne : 7 ≡ k → ⊥ = λ e. ⊎_elim (λ l. omega (arith, l, e)) (λ l. omega (arith, l, e)) other in
+        ne_eqb (len + 7) (len + k) (λ e. ne (omega (arith, e))) ∙ sym (ne_eqb 7 k ne)
 
 behind_none : (a b c : List ℕ) → a ≡ [] → b ≡ c → a ++ b ≡ c
 behind_none a b c none is = ap (λ (x : List ℕ). x ++ b) none ∙ is
@@ -146,9 +171,9 @@ module _ (files : List ClassFile) (form : Form) (classes : List Class) (fields :
   own_method : (file : ClassFile) (c : ClassId) (member : MemberInfo) (y : Method) → linked_method w file c member ≡ Some y → y.owner ≡ c
   own_method file c member y e = let m = linked_method_is w file c member y e in ap (λ (f : Method). f.owner) (sym m.is)
 
-  pub first_field_is : (n : ℕ) → n ≤ len → first_field w (class_id n) ≡ before (λ file. file.fields) files n
+  pub first_field_is : (n : ℕ) → n ≤ len → first_field w (class_id n) ≡ suc (before (λ file. file.fields) files n)
   unfolding world_of
-  first_field_is n within = before_is_sum (λ file. file.fields) view_of_file (λ v. length v.fields) (λ file. length-map file.fields (declared_field file)) files (built_views form) n within
+  first_field_is n within = ap suc (before_is_sum (λ file. file.fields) view_of_file (λ v. length v.fields) (λ file. length-map file.fields (declared_field file)) files (built_views form) n within)
 
   pub first_method_is : (n : ℕ) → n ≤ len → first_method w (class_id n) ≡ before (λ file. file.methods) files n
   unfolding world_of
@@ -170,11 +195,16 @@ module _ (files : List ClassFile) (form : Form) (classes : List Class) (fields :
   abbrev is_owned : ℕ → Class → Bool
   is_owned n class = bytes_eq (map (λ (f : FieldId). f.0) class.fields) (fields_of n) && bytes_eq (numbers_of class) (methods_of n)
 
+  not_the_first : (n : ℕ) → n < len → fields_of n ≡ owned_from (λ (f : Field). f.owner) (class_id n) 1 fields
+  not_the_first n within = cond-false (len + 7 == n) _ _ (ne_eqb (len + 7) n (λ e. omega (arith, e, within)))
+
   of_file : (n : ℕ) (file : ClassFile) (class : Class) → slice_get files n ≡ Some file → LinkedClass w file (class_id n) class → is_owned n class ≡ true
   of_file n file class there made =
       let within = slice_get_within files n file there in
       let fields_are = ap (λ (c : Class). map (λ (f : FieldId). f.0) c.fields) (sym made.is) ∙ (field_numbers _ ∙ (ap (λ (k : ℕ). range_with_len k (length file.fields)) (first_field_is n (omega (arith, within)))
-      ∙ sym (owned_row (λ f. f.fields) (linked_field w) (λ (f : Field). f.owner) own_field files fields l.fields_are n file there))) in
+      ∙ (range_later _ (length file.fields)
+      ∙ (ap (map suc) (sym (owned_row (λ f. f.fields) (linked_field w) (λ (f : Field). f.owner) own_field files fields l.fields_are n file there))
+      ∙ (sym (owned_later (λ (f : Field). f.owner) (class_id n) 0 fields) ∙ sym (not_the_first n within)))))) in
       let row = owned_row (λ f. f.methods) (linked_method w) (λ (m : Method). m.owner) own_method files methods l.methods_are n file there in
       let rest = built_owners n (0 + length methods) ∙ none_before n (0 + length methods) within (map owner_of (built_in_methods_in form 0)) in
       let all = owned-append (λ (m : Method). m.owner) (class_id n) 0 methods (built_in_methods_in form len)
@@ -208,8 +238,13 @@ module _ (files : List ClassFile) (form : Form) (classes : List Class) (fields :
 
   built_fields : (k : ℕ) (class : Class) → slice_get (built_in_classes_in form len (length methods)) k ≡ Some class → map (λ (f : FieldId). f.0) class.fields ≡ fields_of (len + k)
   built_fields k class there =
-      none_mapped (λ (f : FieldId). f.0) class.fields (all_at (λ (c : Class). is_empty c.fields) (built_in_classes_in form len (length methods)) (no_fields form len (length methods)) k class there)
-      ∙ sym (none_of_later (λ f. f.fields) (linked_field w) (λ (f : Field). f.owner) own_field files fields l.fields_are (len + k) (omega arith))
+      let own : map (λ (f : FieldId). f.0) class.fields ≡ first_field_of (0 + k) = text_is _ _ (each_class_at (λ c other. bytes_eq (map (λ (f : FieldId). f.0) other.fields) (first_field_of c.0)) 0 (built_in_classes_in form len (length methods)) (field_table form len (length methods)) k class there) in
+      let number : 0 + k ≡ k = omega arith in
+      let none = owned_later (λ (f : Field). f.owner) (class_id (len + k)) 0 fields ∙ ap (map suc) (none_of_later (λ f. f.fields) (linked_field w) (λ (f : Field). f.owner) own_field files fields l.fields_are (len + k) (omega arith)) in
+      own
+      ∙ (ap first_field_of number
+      ∙ (ap (λ (z : Bool). if z then 0 ∷ [] else []) (sym (first_owned len k))
+      ∙ ap (λ (ns : List ℕ). if len + 7 == len + k then 0 ∷ ns else ns) (sym none)))
 
   of_built_in : (k : ℕ) (class : Class) → slice_get (built_in_classes_in form len (length methods)) k ≡ Some class → is_owned (len + k) class ≡ true
   of_built_in k class there = and_from _ _ (same_text _ _ (built_fields k class there)) (same_text _ _ (built_numbers k class there ∙ sym (built_methods k)))

@@ -27,7 +27,7 @@ mod InstrsThere
 mod FramesThere
 mod CodeThere
 mod ProperFrames
-mod NoHandlers
+mod PausesBare
 mod TablesStand
 mod ProgramThere
 mod TestedTypes
@@ -40,3 +40,4 @@ mod FoundIds
 mod NamedMembers
 mod BuiltInIds
 mod IdsArePlaces
+mod Catches

@@ -1,6 +1,6 @@
 //! Facts of methods, code and frames of programs that are linked: laws about definitions of the crates below.
 
-ghost use Rattle.kilim_link_laws.specs.code_laws.Facts.{CodeIsWhole, ConstantsFit, FramesAreProper, FramesIncrease, IdsArePlaces, MethodsAreSound, NoFaultLinks, NoTaskArrays, NoneHasHandlers, ReceiversAreCuttable, TablesStand};
+ghost use Rattle.kilim_link_laws.specs.code_laws.Facts.{CatchesAreThere, CodeIsWhole, ConstantsFit, FramesAreProper, FramesIncrease, IdsArePlaces, MethodsAreSound, NoFaultLinks, NoTaskArrays, NonePausesWithTable, ReceiversAreCuttable, TablesStand};
 
 use kilim_class_code::opcodes::{lengths, one_spelling};
 use kilim_class_code::targets_are_places;
@@ -20,13 +20,20 @@ pub fn frames_are_proper()
     linked_in_parts();
 }
 
-/// A law, and no work: no method has an exception table.
-pub fn none_has_handlers()
-    ensures { NoneHasHandlers }
+/// A law, and no work: no method that pauses has an exception table.
+pub fn none_pauses_with_table()
+    ensures { NonePausesWithTable }
 {
     linked_in_parts();
     none_has_a_problem();
     none_of_each_kind();
+}
+
+/// A law, and no work: each class that an exception table catches is one of the program.
+pub fn catches_are_there()
+    ensures { CatchesAreThere }
+{
+    linked_in_parts();
 }
 
 /// A law, and no work: each entry of an exception table is one of instructions of its method.

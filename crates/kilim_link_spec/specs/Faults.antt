@@ -35,7 +35,7 @@ use Rattle.kilim_link_spec.specs.Qualified.{Qualified, qualified, is_constructor
 use Rattle.kilim_link_spec.specs.Code.{MemberRef, index_in, operand_at}
 use Rattle.kilim_link_spec.specs.Linked.{code_attribute, first_of, numbered}
 use Rattle.kilim_link_spec.specs.Mentions.{Mention, OfClass, OfElement, OfField, OfMethod, OfFloat, Member, Field, Method, instrs_of, mentions_of, members_named, class_names}
-pub use Rattle.kilim_link_spec.specs.LeftOut.{is_fiber, decoded_in, left_out_op, left_out_ops, is_float_base, is_float_mention, has_float, has_initializer, has_its_constant, has_static_field, has_method_flag, has_interface, has_pausable_constructor, has_row, has_handlers, is_task_name, is_task_base, has_task_array, has_fiber_name, differs_in, has_other_parameters, if_left}
+pub use Rattle.kilim_link_spec.specs.LeftOut.{is_fiber, decoded_in, left_out_op, left_out_ops, is_float_base, is_float_mention, has_float, has_initializer, has_its_constant, has_static_field, has_method_flag, has_interface, has_pausable_constructor, has_row, has_pausable_handlers, is_task_name, is_task_base, has_task_array, has_fiber_name, differs_in, has_other_parameters, if_left}
 unfoldable pub use Rattle.kilim_link_spec.specs.LeftOut.{left_out_parts}
 
 -- a member of a file as a fault tells it: its name and its descriptor

@@ -90,9 +90,9 @@ abbrev pub has_row : Option Code → Bool
 has_row None = false
 has_row (Some c) = not (is_empty c.exception_table)
 
--- the code of some method has one, also where it has a fault
-abbrev pub has_handlers : ClassFile → Bool
-has_handlers file = list_any (λ m. has_row (code_attribute m)) file.methods
+-- the code of some method that pauses has one, also where it has a fault
+abbrev pub has_pausable_handlers : ClassFile → Bool
+has_pausable_handlers file = list_any (λ m. has_row (code_attribute m) && (declared_method file m).pausable) file.methods
 
 -- `kilim/Task`, or a class below it
 abbrev pub is_task_name : World → Option ClassId → Bool
@@ -139,7 +139,7 @@ left_out_parts w file =
     ++ (if_left (has_interface file) part.Interface
     ++ (if_left (not (has_flag acc_super file.access_flags)) part.NoSuperFlag
     ++ (if_left (has_pausable_constructor file) part.PausableConstructor
-    ++ (if_left (has_handlers file) part.Handlers
+    ++ (if_left (has_pausable_handlers file) part.PausableHandlers
     ++ (if_left (has_task_array w file) part.TaskArray
     ++ (if_left (has_fiber_name w file) part.Fiber
     ++ if_left (has_other_parameters file) part.ParameterAnnotations)))))))))))

@@ -22,7 +22,7 @@ use Rattle.kilim_program.specs.declared.ty.Ty.{Ty}
 use Rattle.kilim_program.specs.declared.value.Value.{Value}
 use Rattle.kilim_program.specs.declared.verified.Frame.{Frame}
 use Rattle.kilim_program.specs.Program.{Program}
-use Rattle.kilim_program.specs.BuiltIn.{class_id, method_id, built_in_classes_in, built_in_methods_in}
+use Rattle.kilim_program.specs.BuiltIn.{class_id, method_id, built_in_classes_in, built_in_fields, built_in_methods_in}
 use Rattle.kilim_program.specs.Kinds.{is_message}
 use Rattle.kilim_program.specs.Names.{◌>>=◌}
 use Rattle.kilim_link_spec.specs.World.{World, world_of, own_name, super_name, class_of, member_name, member_descriptor, class_text, has_flag, acc_private, acc_static, acc_abstract, declared_method, field_id, first_method, first_field}
@@ -171,12 +171,12 @@ numbered make n (file ∷ files) = make file (class_id n) ∷ numbered make (suc
 abbrev pub members : {A : Type 0} → (ClassFile → List MemberInfo) → (ClassFile → ClassId → MemberInfo → A) → List ClassFile → List A
 members list make files = flat_map itself (numbered (λ file c. map (make file c) (list file)) 0 files)
 
--- the classes, fields and methods of files, and behind them the built-in ones
+-- the classes and methods of files, and behind them the built-in ones; before their fields the built-in one
 abbrev pub program_with : List ClassFile → Form → List Class → List Field → List Method → Program
 program_with files form classes fields methods = record {
   classes = classes ++ built_in_classes_in form (length files) (length methods);
   methods = methods ++ built_in_methods_in form (length files);
-  fields = fields;
+  fields = built_in_fields (length files) ++ fields;
   form = form;
 }
 

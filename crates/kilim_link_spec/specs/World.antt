@@ -1,5 +1,5 @@
 -- The classes of some files and the built-in ones, with their members by name and descriptor: a list that is searched.
-use Rattle.std.specs.Prelude.{ℕ, ◌+◌, Bool, true, false, ◌&&◌, not, ◌==◌, bit_and, List, [], ◌∷◌, ◌++◌, map, length, take, slice_get, sum_by, Option, Some, None, option_map, codes}
+use Rattle.std.specs.Prelude.{ℕ, suc, ◌+◌, Bool, true, false, ◌&&◌, not, ◌==◌, bit_and, List, [], ◌∷◌, ◌++◌, map, length, take, slice_get, sum_by, Option, Some, None, option_map, codes}
 use Rattle.std.specs.List.{list_any, flat_map, filter_map, position_from}
 use Rattle.std.specs.Str.{bytes_eq}
 use Rattle.kilim_program.specs.declared.class.Class.{Class}
@@ -10,7 +10,8 @@ use Rattle.kilim_program.specs.declared.names.FieldId.{FieldId}
 use Rattle.kilim_program.specs.declared.names.MethodId.{MethodId}
 use Rattle.kilim_program.specs.declared.ty.Ty.{Ty}
 use Rattle.kilim_program.specs.Program.{Program}
-use Rattle.kilim_program.specs.BuiltIn.{class_id, method_id, built_in_classes_in, built_in_methods_in, is_final_built_in}
+use Rattle.kilim_program.specs.BuiltIn.{class_id, method_id, built_in_classes_in, built_in_fields, built_in_methods_in, is_final_built_in}
+pub use Rattle.kilim_program.specs.BuiltIn.{field_id}
 use Rattle.kilim_program.specs.Kinds.{is_marked}
 use Rattle.kilim_program.specs.Names.{◌>>=◌, class_at, class_name, class_named, descriptor, line_of, method_at}
 use Rattle.kilim_class_pool.specs.declared.entry.Entry.{Entry}
@@ -161,7 +162,7 @@ view_of_file file = record {
 
 -- the built-in classes and methods of a form, as a program of their own
 abbrev pub built_ins : Form → Program
-built_ins form = record { classes = built_in_classes_in form 0 0; methods = built_in_methods_in form 0; fields = []; form = form }
+built_ins form = record { classes = built_in_classes_in form 0 0; methods = built_in_methods_in form 0; fields = built_in_fields 0; form = form }
 
 -- the text of a method's descriptor (JVMS 4.3.3)
 abbrev pub result_descriptor : Program → Option Ty → List ℕ
@@ -185,7 +186,7 @@ declared_built_in p method = record {
   marks = Stated method.receiver method.qualifiers;
 }
 
--- a built-in class as if it were given
+-- a built-in class as if it were given; no file can name the message of an exception
 abbrev pub view_of_built_in : Program → Class → ClassView
 view_of_built_in p class = record {
   name = class.name;
@@ -272,9 +273,9 @@ declared_fields w c = fields_at (view_at w c)
 abbrev pub first_method : World → ClassId → ℕ
 first_method w c = sum_by (λ v. length v.methods) (take c.0 w.classes)
 
--- and the number of its first field
+-- and the number of its first field; the first one of all is the message of an exception
 abbrev pub first_field : World → ClassId → ℕ
-first_field w c = sum_by (λ v. length v.fields) (take c.0 w.classes)
+first_field w c = suc (sum_by (λ v. length v.fields) (take c.0 w.classes))
 
 -- a method has this name and this descriptor
 abbrev pub is_method : List ℕ → List ℕ → DeclaredMethod → Bool
@@ -283,10 +284,6 @@ is_method name descriptor m = bytes_eq m.name name && bytes_eq m.descriptor desc
 -- a field has this name and this descriptor
 abbrev pub is_field : List ℕ → List ℕ → DeclaredField → Bool
 is_field name descriptor f = bytes_eq f.name name && bytes_eq f.descriptor descriptor
-
--- the field of a number
-abbrev pub field_id : ℕ → FieldId
-field_id n = record { 0 = n }
 
 -- the method of that name and descriptor that a class declares
 abbrev pub method_in : World → List ℕ → List ℕ → ClassId → Option MethodId

@@ -25,8 +25,8 @@ pub enum LeftOutPart {
     /// ACC_SUPER isn't set (JVMS table 4.1-A).
     NoSuperFlag,
     PausableConstructor,
-    /// An exception table with a row.
-    Handlers,
+    /// A method that pauses has an exception table with a row.
+    PausableHandlers,
     /// An array of tasks.
     TaskArray,
     /// The name `kilim/Fiber`, in plain form.

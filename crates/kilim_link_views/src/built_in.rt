@@ -7,7 +7,7 @@ ghost use Rattle.kilim_program.specs.Names.{class_name, base_descriptor, descrip
 ghost use Rattle.kilim_link_spec.specs.declared.view.Marks.TheVariants.{Stated};
 ghost use Rattle.kilim_link_spec.specs.World.{result_descriptor, method_descriptor, declared_built_in, view_of_built_in, built_ins};
 
-use crate::built_ins::{built_in_classes, built_in_methods};
+use crate::built_ins::{built_in_classes, built_in_fields, built_in_methods};
 use kilim_link_spec::{ClassView, DeclaredMethod, Marks};
 use kilim_program::lookups::{class_at, method_at};
 use kilim_program::{Base, Class, ClassId, Form, Method, MethodId, Program, Ty, built_in_keeps};
@@ -25,10 +25,13 @@ fn built_ins(alloc: Global, form: Form) -> Result<Program, NoMemory>
     let Ok(methods) = built_in_methods(alloc, form, 0) else {
         return Err(NoMemory);
     };
+    let Ok(fields) = built_in_fields(alloc, 0) else {
+        return Err(NoMemory);
+    };
     Ok(Program {
         classes,
         methods,
-        fields: Seq::new(alloc),
+        fields,
         form,
     })
 }

@@ -8,5 +8,5 @@ mod methods;
 mod parts;
 mod rows;
 
-pub use classes::built_in_classes;
+pub use classes::{built_in_classes, built_in_fields};
 pub use methods::built_in_methods;

@@ -1,5 +1,5 @@
 -- How many classes and members there are.
-use Rattle.std.proofs.Common.{ℕ, ◌*◌, ◌<◌, ◌≤◌, ◌^◌, List, [], ◌∷◌, ◌++◌, length, map, lit≤, arith, length-append}
+use Rattle.std.proofs.Common.{ℕ, suc, ◌*◌, ◌<◌, ◌≤◌, ◌^◌, List, [], ◌∷◌, ◌++◌, length, map, lit≤, arith, length-append}
 use Rattle.std.specs.Prelude.{sum_by}
 use Rattle.std.specs.List.{AllByRecursion}
 use Rattle.std.proofs.lemmas.List.{length-map}
@@ -25,7 +25,7 @@ module _ (count : ClassView → ℕ) (few : (f : ClassFile) → ClassFits f → 
       let all = sum_by-cons count (view_of_file f) (map view_of_file files) in
       omega arith
 
-  total_fits : (files : List ClassFile) (more : List ClassView) → length files ≤ 1000 → AllByRecursion ClassFits files → sum_by count more ≤ 100 → sum_by count (map view_of_file files ++ more) < 2 ^ 32
+  total_fits : (files : List ClassFile) (more : List ClassView) → length files ≤ 1000 → AllByRecursion ClassFits files → sum_by count more ≤ 100 → suc (sum_by count (map view_of_file files ++ more)) < 2 ^ 32
   total_fits files more le fits small =
       let first = files_count files fits in
       let all = sum_by-append count (map view_of_file files) more in
@@ -58,7 +58,7 @@ module _ (files : List ClassFile) (form : Form) (le : length files ≤ 1000) (fi
       omega arith
 
   pub methods_fit : sum_by method_count (map view_of_file files ++ built_in_list form) < 2 ^ 32
-  methods_fit = total_fits method_count few_methods files (built_in_list form) le fits (few_built_in_methods form)
+  methods_fit = let less = total_fits method_count few_methods files (built_in_list form) le fits (few_built_in_methods form) in omega arith
 
-  pub fields_fit : sum_by field_count (map view_of_file files ++ built_in_list form) < 2 ^ 32
+  pub fields_fit : suc (sum_by field_count (map view_of_file files ++ built_in_list form)) < 2 ^ 32
   fields_fit = total_fits field_count few_fields files (built_in_list form) le fits (few_built_in_fields form)

@@ -13,7 +13,7 @@ use Rattle.kilim_link_inherited.specs.Index.{places_from, positions, same_signat
 use Rattle.kilim_link_inherited.specs.declared.index.Index.{Index}
 use Rattle.kilim_link_inherited.specs.declared.said.Said.{Said}
 use Rattle.kilim_link_inherited.specs.Nearest.{said_by, said_of}
-use Rattle.kilim_link_world.specs.Agrees.{indexed, placed, places_at}
+use Rattle.kilim_link_world.specs.Agrees.{field_count, fields_before, indexed, placed, places_at}
 use Rattle.kilim_link_world.proofs.Lists.{position_next}
 
 first_or : (found : Bool) (v : Option ℕ) (more others last : Option (Option ℕ)) → more ≡ or_else others last → (if found then Some v else more) ≡ or_else (if found then Some v else others) last
@@ -110,4 +110,9 @@ total_next count xs i x total is so_far n counts =
     let all = sum_by-append count (take i xs) (x ∷ []) in
     let one = sum_by-cons count x [] in
     let more : sum_by count (take (i + 1) xs) ≡ sum_by count (take i xs ++ x ∷ []) = ap (sum_by count) (take_next xs i x is) in
+    omega arith
+
+pub fields_next : (classes : List ClassView) (i : ℕ) (x : ClassView) (total : ℕ) → slice_get classes i ≡ Some x → total ≡ fields_before classes i → (n : ℕ) → n ≡ field_count x → total + n ≡ fields_before classes (i + 1)
+fields_next classes i x total is so_far n counts =
+    let next = total_next field_count classes i x (sum_by field_count (take i classes)) is refl n counts in
     omega arith

@@ -10,7 +10,7 @@ use Rattle.kilim_link_inherited.specs.declared.nearest.Nearest.{Nearest}
 use Rattle.kilim_link_inherited.specs.declared.said.Said.{Said}
 use Rattle.kilim_link_inherited.specs.Nearest.{says, nearest}
 use Rattle.kilim_link_inherited.specs.Known.{known, Tells}
-use Rattle.kilim_link_world.specs.Agrees.{method_count, field_count, placed}
+use Rattle.kilim_link_world.specs.Agrees.{method_count, fields_before, placed}
 use Rattle.kilim_link_world.specs.Superclasses.{AreSuperclasses}
 
 module _ {I : Type 0} (make : ℕ → I) where
@@ -34,9 +34,9 @@ module _ (w : World) (ups : List (Option ClassId)) (are : AreSuperclasses w.outl
       ∙ (nearest_found method_id (λ d. sum_by method_count (take d.0 w.classes)) (λ d. position_from (is_method name descriptor) 0 (methods_at (slice_get w.classes d.0))) said name descriptor saying (line_in ups c)
       ∙ ap (first_found (method_in w name descriptor)) (are.line_is c))
 
-  pub field_told : ((d : ClassId) → says said name descriptor d ≡ placed (sum_by field_count (take d.0 w.classes)) (position_from (is_field name descriptor) 0 (fields_at (slice_get w.classes d.0))))
+  pub field_told : ((d : ClassId) → says said name descriptor d ≡ placed (fields_before w.classes d.0) (position_from (is_field name descriptor) 0 (fields_at (slice_get w.classes d.0))))
       → option_map field_id (known it c name descriptor) ≡ find_field w c name descriptor
   field_told saying =
       ap (option_map field_id) (tells.nearest_is c name descriptor)
-      ∙ (nearest_found field_id (λ d. sum_by field_count (take d.0 w.classes)) (λ d. position_from (is_field name descriptor) 0 (fields_at (slice_get w.classes d.0))) said name descriptor saying (line_in ups c)
+      ∙ (nearest_found field_id (λ d. fields_before w.classes d.0) (λ d. position_from (is_field name descriptor) 0 (fields_at (slice_get w.classes d.0))) said name descriptor saying (line_in ups c)
       ∙ ap (first_found (field_in w name descriptor)) (are.line_is c))

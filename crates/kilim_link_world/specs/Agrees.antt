@@ -31,6 +31,14 @@ method_count v = length v.methods
 abbrev pub field_count : ClassView → ℕ
 field_count v = length v.fields
 
+-- the number of the first field of a class: the message of an exception stands before all of them
+abbrev pub fields_before : List ClassView → ℕ → ℕ
+fields_before classes n = suc (sum_by field_count (take n classes))
+
+-- that of each class, and of one behind the last
+abbrev pub field_firsts_of : List ClassView → List ℕ
+field_firsts_of classes = each_below (fields_before classes) (length classes + 1)
+
 -- the number of the first member of each class, and of one behind the last
 abbrev pub firsts_of : (ClassView → ℕ) → List ClassView → List ℕ
 firsts_of count classes = each_below (λ c. sum_by count (take c classes)) (length classes + 1)
@@ -57,6 +65,6 @@ pub record Agrees (form : Form) (classes : List ClassView) (outline : Program) (
   pub lineages_are : (c : ClassId) (k : ℕ) → k < length classes → is_some (inherits lineages c k) ≡ list_any (λ d. d.0 == k) (line_of outline c)
   pub methods_are : (c : ℕ) (name descriptor : List ℕ) → indexed methods c name descriptor ≡ places_from (is_method name descriptor) 0 (methods_at (slice_get classes c))
   pub first_methods_are : first_methods ≡ firsts_of method_count classes
-  pub first_fields_are : first_fields ≡ firsts_of field_count classes
+  pub first_fields_are : first_fields ≡ field_firsts_of classes
   pub nearest_methods_are : (c : ClassId) (name descriptor : List ℕ) → option_map method_id (known nearest_methods c name descriptor) ≡ find_method (record { form = form; classes = classes; outline = outline }) c name descriptor
   pub nearest_fields_are : (c : ClassId) (name descriptor : List ℕ) → option_map field_id (known nearest_fields c name descriptor) ≡ find_field (record { form = form; classes = classes; outline = outline }) c name descriptor

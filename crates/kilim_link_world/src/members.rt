@@ -1,8 +1,8 @@
 //! Where each class has its methods, and the numbers of the first members.
 
-ghost use Rattle.std.specs.Prelude.{◌≡◌, ◌<◌, ◌^◌, List, ℕ, IfOk, length, slice_get, sum_by};
+ghost use Rattle.std.specs.Prelude.{◌≡◌, ◌<◌, ◌^◌, List, ℕ, suc, IfOk, length, slice_get, sum_by};
 ghost use Rattle.kilim_link_spec.specs.World.{is_method, methods_at};
-ghost use Rattle.kilim_link_world.specs.Agrees.{method_count, field_count, firsts_of, indexed};
+ghost use Rattle.kilim_link_world.specs.Agrees.{method_count, field_count, field_firsts_of, firsts_of, indexed};
 ghost use Rattle.kilim_link_inherited.specs.Index.{positions, places_from};
 
 use crate::keys::key_of;
@@ -73,11 +73,11 @@ pub fn method_firsts(alloc: Global, classes: &[ClassView]) -> Result<Seq<u32>, N
 
 /// The number of each class's first field, and of one behind the last.
 pub fn field_firsts(alloc: Global, classes: &[ClassView]) -> Result<Seq<u32>, NoMemory>
-    requires { sum_by field_count classes.now < 2 ^ 32 }
-    ensures { IfOk result (λ firsts. firsts ≡ firsts_of field_count classes.now) }
+    requires { suc (sum_by field_count classes.now) < 2 ^ 32 }
+    ensures { IfOk result (λ firsts. firsts ≡ field_firsts_of classes.now) }
 {
     let mut firsts: Seq<u32> = Seq::new(alloc);
-    let mut total: u32 = 0;
+    let mut total: u32 = 1;
     let mut i = 0;
     while i < classes.len() {
         let Ok(()) = firsts.push(total) else {

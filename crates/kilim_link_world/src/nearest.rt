@@ -1,6 +1,6 @@
 //! What each class says of its members, their numbers, and the numbers of the nearest ones.
 
-ghost use Rattle.std.specs.Prelude.{◌≡◌, ◌+◌, ◌<◌, ◌≤◌, ◌^◌, List, ℕ, IfOk, length, option_map, slice_get, sum_by, take};
+ghost use Rattle.std.specs.Prelude.{◌≡◌, ◌+◌, ◌<◌, ◌≤◌, ◌^◌, List, ℕ, suc, IfOk, length, option_map, slice_get, sum_by, take};
 ghost use Rattle.std.specs.List.{position_from};
 ghost use Rattle.kilim_program.specs.declared.names.ClassId as ids;
 ghost use Rattle.kilim_program.specs.declared.class.Form.{Form};
@@ -9,7 +9,7 @@ ghost use Rattle.kilim_program.specs.Program.{Program};
 ghost use Rattle.kilim_link_spec.specs.World.{is_method, is_field, methods_at, fields_at, field_id, find_method, find_field};
 ghost use Rattle.kilim_link_inherited.specs.Known.{known};
 ghost use Rattle.kilim_link_inherited.specs.Nearest.{said_by, says};
-ghost use Rattle.kilim_link_world.specs.Agrees.{method_count, field_count, placed};
+ghost use Rattle.kilim_link_world.specs.Agrees.{method_count, field_count, fields_before, placed};
 ghost use Rattle.kilim_link_world.specs.Superclasses.{AreSuperclasses};
 
 use crate::keys::key_of;
@@ -90,12 +90,12 @@ fn all_methods_said(alloc: Global, classes: &[ClassView]) -> Result<Seq<Seq<Said
 
 // What each class says of its fields: their numbers.
 fn all_fields_said(alloc: Global, classes: &[ClassView]) -> Result<Seq<Seq<Said>>, NoMemory>
-    requires { sum_by field_count classes.now < 2 ^ 32 }
+    requires { suc (sum_by field_count classes.now) < 2 ^ 32 }
     ensures counted { IfOk result (λ said. length said ≡ length classes.now) }
-    ensures said { IfOk result (λ said. (c : ids.ClassId) (name descriptor : List ℕ) → says said name descriptor c ≡ placed (sum_by field_count (take c.0 classes.now)) (position_from (is_field name descriptor) 0 (fields_at (slice_get classes.now c.0)))) }
+    ensures said { IfOk result (λ said. (c : ids.ClassId) (name descriptor : List ℕ) → says said name descriptor c ≡ placed (fields_before classes.now c.0) (position_from (is_field name descriptor) 0 (fields_at (slice_get classes.now c.0)))) }
 {
     let mut said: Seq<Seq<Said>> = Seq::new(alloc);
-    let mut total: u32 = 0;
+    let mut total: u32 = 1;
     let mut i = 0;
     while i < classes.len() {
         let fields = classes[i].fields.as_slice();
@@ -134,7 +134,7 @@ pub fn nearest_fields(
     ups: &[Option<ClassId>],
 ) -> Result<Nearest, NoMemory>
     requires one_each { length ups.now ≡ length classes.now }
-    requires fit { sum_by field_count classes.now < 2 ^ 32 }
+    requires fit { suc (sum_by field_count classes.now) < 2 ^ 32 }
     ensures { IfOk result (λ it. (form : Form) (outline : Program) → AreSuperclasses outline ups.now → (c : ids.ClassId) (name descriptor : List ℕ) → option_map field_id (known it c name descriptor) ≡ find_field (record { form = form; classes = classes.now; outline = outline }) c name descriptor) }
 {
     let Ok(said) = all_fields_said(alloc, classes) else {

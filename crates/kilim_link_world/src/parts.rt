@@ -1,6 +1,6 @@
 //! What a world keeps beside its classes.
 
-ghost use Rattle.std.specs.Prelude.{◌≡◌, ◌<◌, ◌==◌, ◌^◌, List, ℕ, IfOk, is_some, length, option_map, slice_get, sum_by};
+ghost use Rattle.std.specs.Prelude.{◌≡◌, ◌<◌, ◌==◌, ◌^◌, List, ℕ, suc, IfOk, is_some, length, option_map, slice_get, sum_by};
 ghost use Rattle.std.specs.List.{list_any};
 ghost use Rattle.kilim_program.specs.declared.names.ClassId as number;
 ghost use Rattle.kilim_program.specs.BuiltIn.{method_id};
@@ -10,7 +10,7 @@ ghost use Rattle.kilim_link_inherited.specs.Index.{places_from};
 ghost use Rattle.kilim_link_inherited.specs.Known.{known};
 ghost use Rattle.kilim_link_inherited.specs.Roots.{inherits};
 ghost use Rattle.kilim_link_spec.specs.World.{outline_of, is_method, methods_at, field_id, find_method, find_field};
-ghost use Rattle.kilim_link_world.specs.Agrees.{Agrees, method_count, field_count, firsts_of, indexed};
+ghost use Rattle.kilim_link_world.specs.Agrees.{Agrees, method_count, field_count, field_firsts_of, firsts_of, indexed};
 ghost use Rattle.kilim_link_world.specs.Ids.{id_in, named_in};
 ghost use Rattle.kilim_link_world.specs.Superclasses.{AreSuperclasses};
 
@@ -105,10 +105,10 @@ fn lines_of(alloc: Global, form: Form, classes: &[ClassView]) -> Result<Lines, N
 // The members of the classes that are declared.
 fn members_of(alloc: Global, classes: &[ClassView]) -> Result<Members, NoMemory>
     requires methods_fit { sum_by method_count classes.now < 2 ^ 32 }
-    requires fields_fit { sum_by field_count classes.now < 2 ^ 32 }
+    requires fields_fit { suc (sum_by field_count classes.now) < 2 ^ 32 }
     ensures methods { IfOk result (λ m. (c : ℕ) (name descriptor : List ℕ) → indexed m.methods c name descriptor ≡ places_from (is_method name descriptor) 0 (methods_at (slice_get classes.now c))) }
     ensures first_methods { IfOk result (λ m. m.first_methods ≡ firsts_of method_count classes.now) }
-    ensures first_fields { IfOk result (λ m. m.first_fields ≡ firsts_of field_count classes.now) }
+    ensures first_fields { IfOk result (λ m. m.first_fields ≡ field_firsts_of classes.now) }
 {
     let Ok(methods) = method_indices(alloc, classes) else {
         return Err(NoMemory);
@@ -134,7 +134,7 @@ fn nearest_of(
 ) -> Result<NearestMembers, NoMemory>
     requires one_each { length ups.now ≡ length classes.now }
     requires methods_fit { sum_by method_count classes.now < 2 ^ 32 }
-    requires fields_fit { sum_by field_count classes.now < 2 ^ 32 }
+    requires fields_fit { suc (sum_by field_count classes.now) < 2 ^ 32 }
     ensures methods { IfOk result (λ n. (form : Form) (outline : Program) → AreSuperclasses outline ups.now → (c : number.ClassId) (name descriptor : List ℕ) → option_map method_id (known n.methods c name descriptor) ≡ find_method (record { form = form; classes = classes.now; outline = outline }) c name descriptor) }
     ensures fields { IfOk result (λ n. (form : Form) (outline : Program) → AreSuperclasses outline ups.now → (c : number.ClassId) (name descriptor : List ℕ) → option_map field_id (known n.fields c name descriptor) ≡ find_field (record { form = form; classes = classes.now; outline = outline }) c name descriptor) }
 {
@@ -158,10 +158,10 @@ fn all_members_of(
 ) -> Result<AllMembers, NoMemory>
     requires one_each { length ups.now ≡ length classes.now }
     requires methods_fit { sum_by method_count classes.now < 2 ^ 32 }
-    requires fields_fit { sum_by field_count classes.now < 2 ^ 32 }
+    requires fields_fit { suc (sum_by field_count classes.now) < 2 ^ 32 }
     ensures methods { IfOk result (λ m. (c : ℕ) (name descriptor : List ℕ) → indexed m.own.methods c name descriptor ≡ places_from (is_method name descriptor) 0 (methods_at (slice_get classes.now c))) }
     ensures first_methods { IfOk result (λ m. m.own.first_methods ≡ firsts_of method_count classes.now) }
-    ensures first_fields { IfOk result (λ m. m.own.first_fields ≡ firsts_of field_count classes.now) }
+    ensures first_fields { IfOk result (λ m. m.own.first_fields ≡ field_firsts_of classes.now) }
     ensures nearest_methods { IfOk result (λ m. (form : Form) (outline : Program) → AreSuperclasses outline ups.now → (c : number.ClassId) (name descriptor : List ℕ) → option_map method_id (known m.nearest.methods c name descriptor) ≡ find_method (record { form = form; classes = classes.now; outline = outline }) c name descriptor) }
     ensures nearest_fields { IfOk result (λ m. (form : Form) (outline : Program) → AreSuperclasses outline ups.now → (c : number.ClassId) (name descriptor : List ℕ) → option_map field_id (known m.nearest.fields c name descriptor) ≡ find_field (record { form = form; classes = classes.now; outline = outline }) c name descriptor) }
 {
@@ -181,7 +181,7 @@ fn all_members_of(
 pub fn parts_of(alloc: Global, form: Form, classes: &[ClassView]) -> Result<Parts, NoMemory>
     requires few { length classes.now < 2 ^ 32 }
     requires methods_fit { sum_by method_count classes.now < 2 ^ 32 }
-    requires fields_fit { sum_by field_count classes.now < 2 ^ 32 }
+    requires fields_fit { suc (sum_by field_count classes.now) < 2 ^ 32 }
     ensures { IfOk result (λ p. Agrees form classes.now p.lines.outline p.lines.ids p.lines.superclasses p.lines.lineages p.members.methods p.members.first_methods p.members.first_fields p.nearest.methods p.nearest.fields) }
 {
     let Ok(lines) = lines_of(alloc, form, classes) else {

@@ -1,6 +1,6 @@
 //! The classes of some files and the built-in ones.
 
-ghost use Rattle.std.specs.Prelude.{◌≡◌, ◌<◌, ◌≤◌, ◌^◌, IfOk, length, option_copied, sum_by};
+ghost use Rattle.std.specs.Prelude.{◌≡◌, ◌<◌, ◌≤◌, ◌^◌, suc, IfOk, length, option_copied, sum_by};
 ghost use Rattle.std.specs.List.{AllByRecursion};
 ghost use Rattle.kilim_class_file.specs.Text.{ClassFits};
 ghost use Rattle.kilim_link_spec.specs.Faults.{is_circular};
@@ -62,7 +62,7 @@ impl World {
     pub fn of_views(alloc: Global, form: Form, classes: Seq<ClassView>) -> Result<World, NoMemory>
         requires few { length classes < 2 ^ 32 }
         requires methods_fit { sum_by method_count classes < 2 ^ 32 }
-        requires fields_fit { sum_by field_count classes < 2 ^ 32 }
+        requires fields_fit { suc (sum_by field_count classes) < 2 ^ 32 }
         ensures { IfOk result (λ w. w ≡ world_with form classes) }
     {
         let Ok(parts) = parts_of(alloc, form, classes.as_slice()) else {

@@ -2,7 +2,7 @@
 use Rattle.std.proofs.Common.{◌≡◌, inl, inr, ℕ, zero, suc, ℤ, pos, negsuc, Bool, true, false, cond, eqb, List, [], ◌∷◌, ◌++◌, length, drop, Option, Some, None, Ok, refl, sym, ap, subst, ◌∙◌}
 use mathlib.Core.List.{reverse_aux}
 use Rattle.std.specs.Prelude.{◌&&◌, ◌||◌, not, slice_get, map, reverse, codes}
-use Rattle.std.specs.FinMap.{insert}
+use Rattle.std.specs.FinMap.{get, insert}
 use Rattle.std.specs.List.{flat_map, list_any}
 use Rattle.std.specs.Str.{bytes_eq}
 use Rattle.std.proofs.lemmas.Bool.{and_parts, and_from, eqb-true}
@@ -21,25 +21,26 @@ use Rattle.kilim_program.specs.declared.value.Value.{Value}
 use Rattle.kilim_program.specs.declared.value.Value.TheVariants as value
 use Rattle.kilim_program.specs.declared.verified.VType.{VType}
 use Rattle.kilim_program.specs.declared.verified.VType.TheVariants.{Top, Int, Long, Null, UninitThis, Uninit, Object}
-use Rattle.kilim_program.specs.BuiltIn.{class_type}
+use Rattle.kilim_program.specs.BuiltIn.{class_type, message_field}
 use Rattle.kilim_program.specs.Names.{class_at, field_of, first_that, is_empty, line_of, method_at, methods_of}
 use Rattle.kilim_program.specs.Program.{Program}
-use Rattle.kilim_program.specs.Same.{answers, is_constructor, same_result, same_signature, same_types}
+use Rattle.kilim_program.specs.Same.{answers, is_constructor, same_signature}
 use Rattle.kilim_program.specs.Members.{object_fields}
 use Rattle.kilim_run_state.specs.Machine.{Objects}
 use Rattle.kilim_run_state.specs.Objects.{first_field, first_value, first_value_of, new_object}
 use Rattle.kilim_run_state.specs.Shapes.{field_in}
-use Rattle.kilim_run_machine.specs.Does.{above_of, at_unit, bit, calls_method, calls_on, calls_text, chosen, chosen_by, chosen_on, is_mailbox, is_text, narrowed_to, special, superclass_of, takes_element, text_answers, unit_at, with_element, with_field}
+use Rattle.kilim_run_machine.specs.Does.{above_of, at_unit, bit, calls_built_in, calls_method, calls_on, calls_text, chosen, chosen_by, chosen_on, gives_message, is_mailbox, is_text, keeps_message, narrowed_to, special, superclass_of, takes_element, text_answers, unit_at, with_element, with_field}
 use Rattle.kilim_run_machine.specs.Effect.{Effect, Asks, Calls, Goes, Makes, Opens, Raises, Stuck, as_class, as_int, on_constant, on_object, on_receiver, on_value, on_values, text_of, when, with_some}
-use Rattle.kilim_run_machine.specs.Natives.{is_built_in_constructor, is_handed_out, is_text_method}
+use Rattle.kilim_run_machine.specs.Natives.{is_built_in_constructor, is_get_message, is_handed_out, is_message_constructor, is_text_method}
 use Rattle.kilim_lemmas.proofs.Texts.{text_is}
 use Rattle.kilim_type_spec.specs.Step.{Types, Operand, Is, Further, Constructs, Makes as MakesRow, Takes, all_meet, arguments, by_row, class_vtype, constructed, field_row, further, has_operands, has_room, holder, is_class, is_same, is_top, is_unset, made_at, may_make, may_name, needs, one_replaced, peek, replaced, result_types, room_for, rule, special_by, special_row, special_rules, static_row, static_rules, superclass_at, virtual_row, virtual_rules, vtype}
+use Rattle.kilim_type_laws.proofs.members.SameNames.{named_alike as signature_alike}
 use Rattle.kilim_type_sound.specs.Facts.{Facts, IsCharAt, IsEquals, IsLength, TextKind}
 use Rattle.kilim_type_sound.proofs.Basics.{Furthers, furthers, ok_is, passed, takes_inverse}
 use Rattle.kilim_type_sound.proofs.Calls.{arguments_are, vtype_no_top}
 use Rattle.kilim_type_sound.proofs.Slots.{no_slot}
 use Rattle.kilim_type_sound.proofs.Steps.{vtype_set}
-use Rattle.kilim_new_bounds.proofs.Slots.{FieldsSo, HeapSo, LocalsSo, Mode, Away, Raw, Known, ObjectSo, SlotSo, StackSo, ValuesSo, field_so, get_so, good, good_slot, is_box, set_so, slot_so, so, value_so, with_field_so}
+use Rattle.kilim_new_bounds.proofs.Slots.{FieldsSo, HeapSo, LocalsSo, Mode, Away, Raw, Known, ObjectSo, SlotSo, StackSo, ValuesSo, field_so, get_so, good, good_slot, insert_so, is_box, set_so, slot_so, so, value_so, with_field_so}
 use Rattle.kilim_new_bounds.proofs.Effects.{AllPlain, EffectSo, FrameSo, IsRaw, NewSo, NotBuilt, Renews, TakenSo, WaitsSo, class_is, constant_is, index_is, int_is, int_took, object_took, plain, receiver_is, receiver_took, reversed_so, some_is, taken_so, value_took, values_took}
 use Rattle.kilim_new_bounds.proofs.Rows.{by_takes, going, other_slot, other_value, writing}
 use Rattle.kilim_new_bounds.proofs.Pairs.{Paired}
@@ -67,39 +68,41 @@ map_length (ty ∷ tys) = ap suc (map_length tys)
 argument_count : (callee : Method) → length (arguments callee) ≡ length callee.params
 argument_count callee = length-reverse (map (λ ty. Is (vtype ty)) callee.params) ∙ map_length callee.params
 
--- ---- what is called has the name of what is named
+-- ---- what is called has the name and the result of what is named
 
-named_alike : (p : Program) (named : Method) (xs : List MethodId) (f : MethodId) (callee : Method) → first_that (λ x. answers named (method_at p x)) xs ≡ Some f → method_at p f ≡ Some callee → is_constructor named ≡ false → is_constructor callee ≡ false
+abbrev Alike : Method → Method → Type 0
+Alike named callee = (is_constructor callee ≡ false) × (callee.result ≡ named.result)
+
+named_alike : (p : Program) (named : Method) (xs : List MethodId) (f : MethodId) (callee : Method) → first_that (λ x. answers named (method_at p x)) xs ≡ Some f → method_at p f ≡ Some callee → is_constructor named ≡ false → Alike named callee
 named_alike p named [] f callee e there none = absurd (cc)
 named_alike p named (x ∷ xs) f callee e there none = by (answers named (method_at p x)) refl e (λ rest. named_alike p named xs f callee rest there none)
   where
-    alike : (other : Method) → answers named (Some other) ≡ true → is_constructor other ≡ false
+    alike : (other : Method) → answers named (Some other) ≡ true → Alike named other
     alike other q =
-        let a = (and_parts (not other.is_private) (same_signature named other) q).1 in
-        let same = text_is named.name other.name (and_parts (bytes_eq named.name other.name) (same_types named.params other.params && same_result named.result other.result) a).0 in
-        ap (λ (n : List ℕ). bytes_eq n (codes "<init>")) (sym same) ∙ none
+        let a = signature_alike named other (and_parts (not other.is_private) (same_signature named other) q).1 in
+        (ap (λ (n : List ℕ). bytes_eq n (codes "<init>")) (sym a.name) ∙ none, sym a.result)
 
-    by : (z : Bool) → answers named (method_at p x) ≡ z → cond z (Some x) (first_that (λ x. answers named (method_at p x)) xs) ≡ Some f → (first_that (λ x. answers named (method_at p x)) xs ≡ Some f → is_constructor callee ≡ false) → is_constructor callee ≡ false
+    by : (z : Bool) → answers named (method_at p x) ≡ z → cond z (Some x) (first_that (λ x. answers named (method_at p x)) xs) ≡ Some f → (first_that (λ x. answers named (method_at p x)) xs ≡ Some f → Alike named callee) → Alike named callee
     by true is e again =
         let s : x ≡ f = cc in
         let at : method_at p x ≡ Some callee = ap (method_at p) s ∙ there in
         alike callee (sym (ap (answers named) at) ∙ is)
     by false is e again = again e
 
-chosen_alike : (p : Program) (named : Method) (id : MethodId) (xs : List MethodId) (callee : Method) → method_at p id ≡ Some named → method_at p (chosen_by (first_that (λ x. answers named (method_at p x)) xs) id) ≡ Some callee → is_constructor named ≡ false → is_constructor callee ≡ false
+chosen_alike : (p : Program) (named : Method) (id : MethodId) (xs : List MethodId) (callee : Method) → method_at p id ≡ Some named → method_at p (chosen_by (first_that (λ x. answers named (method_at p x)) xs) id) ≡ Some callee → is_constructor named ≡ false → Alike named callee
 chosen_alike p named id xs callee at there none = by (first_that (λ x. answers named (method_at p x)) xs) refl there
   where
-    by : (o : Option MethodId) → first_that (λ x. answers named (method_at p x)) xs ≡ o → method_at p (chosen_by o id) ≡ Some callee → is_constructor callee ≡ false
-    by None is there = ap is_constructor (sym (let s : named ≡ callee = cc in s)) ∙ none
+    by : (o : Option MethodId) → first_that (λ x. answers named (method_at p x)) xs ≡ o → method_at p (chosen_by o id) ≡ Some callee → Alike named callee
+    by None is there = subst (Alike named) (let s : named ≡ callee = cc in s) (none, refl)
     by (Some f) is there = named_alike p named xs f callee is there none
 
-itself_alike : (p : Program) (named : Method) (id : MethodId) (callee : Method) → method_at p id ≡ Some named → method_at p id ≡ Some callee → is_constructor named ≡ false → is_constructor callee ≡ false
-itself_alike p named id callee at there none = ap is_constructor (sym (let s : named ≡ callee = cc in s)) ∙ none
+itself_alike : (p : Program) (named : Method) (id : MethodId) (callee : Method) → method_at p id ≡ Some named → method_at p id ≡ Some callee → is_constructor named ≡ false → Alike named callee
+itself_alike p named id callee at there none = subst (Alike named) (let s : named ≡ callee = cc in s) (none, refl)
 
-virtual_alike : (p : Program) (named : Method) (id : MethodId) (ty : Ty) (callee : Method) → method_at p id ≡ Some named → is_constructor named ≡ false → method_at p (chosen p named id ty) ≡ Some callee → is_constructor callee ≡ false
+virtual_alike : (p : Program) (named : Method) (id : MethodId) (ty : Ty) (callee : Method) → method_at p id ≡ Some named → is_constructor named ≡ false → method_at p (chosen p named id ty) ≡ Some callee → Alike named callee
 virtual_alike p named id ty callee at none there = by named.is_private there
   where
-    on : (d : ℕ) (c : Base) → method_at p (chosen_on p named id d c) ≡ Some callee → is_constructor callee ≡ false
+    on : (d : ℕ) (c : Base) → method_at p (chosen_on p named id d c) ≡ Some callee → Alike named callee
     on zero (base.Class c) e = chosen_alike p named id (flat_map (methods_of p) (line_of p c)) callee at e none
     on (suc d) c e = itself_alike p named id callee at e none
     on zero base.Bool e = itself_alike p named id callee at e none
@@ -109,18 +112,18 @@ virtual_alike p named id ty callee at none there = by named.is_private there
     on zero base.Int e = itself_alike p named id callee at e none
     on zero base.Long e = itself_alike p named id callee at e none
 
-    by : (z : Bool) → method_at p (cond z id (chosen_on p named id ty.dims ty.base)) ≡ Some callee → is_constructor callee ≡ false
+    by : (z : Bool) → method_at p (cond z id (chosen_on p named id ty.dims ty.base)) ≡ Some callee → Alike named callee
     by true e = itself_alike p named id callee at e none
     by false e = on ty.dims ty.base e
 
-special_alike : (p : Program) (own named : Method) (id : MethodId) (callee : Method) → method_at p id ≡ Some named → is_constructor named ≡ false → method_at p (special p own named id) ≡ Some callee → is_constructor callee ≡ false
+special_alike : (p : Program) (own named : Method) (id : MethodId) (callee : Method) → method_at p id ≡ Some named → is_constructor named ≡ false → method_at p (special p own named id) ≡ Some callee → Alike named callee
 special_alike p own named id callee at none there = by (is_constructor named || eqb named.owner.0 own.owner.0) there
   where
-    above : (o : Option ClassId) → method_at p (above_of p named id o) ≡ Some callee → is_constructor callee ≡ false
+    above : (o : Option ClassId) → method_at p (above_of p named id o) ≡ Some callee → Alike named callee
     above None e = itself_alike p named id callee at e none
     above (Some c) e = chosen_alike p named id (flat_map (methods_of p) (line_of p c)) callee at e none
 
-    by : (z : Bool) → method_at p (cond z id (above_of p named id (superclass_of (class_at p own.owner)))) ≡ Some callee → is_constructor callee ≡ false
+    by : (z : Bool) → method_at p (cond z id (above_of p named id (superclass_of (class_at p own.owner)))) ≡ Some callee → Alike named callee
     by true e = itself_alike p named id callee at e none
     by false e = above (superclass_of (class_at p own.owner)) e
 
@@ -277,12 +280,45 @@ module _ (p : Program) (facts : Facts p) (built : (id : MethodId) (callee : Meth
   waits : (result : Option Ty) (ts : List VType) (rest : List Value) → StackSo b m ts rest → WaitsSo b m (record f { stack = result_types result ++ ts }) ls rest
   waits result ts rest e = record { locals = frame.locals; result = result; types = ts; is = refl; stack = e }
 
-  called : (id : MethodId) (args : List Value) (place : ℕ) (result : Option Ty) (ts : List VType) (rest : List Value) → ValuesSo b m args → StackSo b m ts rest → NotBuilt p b id args → (o : Option Method) → Here (result_types result ++ ts) (calls_method o id args place ls rest h)
-  called id args place result ts rest values e none None = tt
-  called id args place result ts rest values e none (Some callee) = elim callee.built_in as (λ (z : Bool). Here (result_types result ++ ts) (cond z (Asks id args place ls rest h) (Calls id args place ls rest h))) [
-    | true ↦ (inl (none, values, waits result ts rest e), heap)
-    | false ↦ (none, values, waits result ts rest e, heap)
-  ]
+  -- the message of an exception, which was in the heap
+  message_given : (ty : Ty) (place : ℕ) (ts : List VType) (rest : List Value) → StackSo b m ts rest → (args : List Value) → Here (vtype ty ∷ ts) (gives_message args place ls rest h)
+  message_given ty place ts rest e [] = tt
+  message_given ty place ts rest e (v ∷ w ∷ ws) = tt
+  message_given ty place ts rest e (value.Int x ∷ []) = tt
+  message_given ty place ts rest e (value.Long x ∷ []) = tt
+  message_given ty place ts rest e (value.Null ∷ []) = tt
+  message_given ty place ts rest e (value.Text u ∷ []) = tt
+  message_given ty place ts rest e (value.Box u ∷ []) = tt
+  message_given ty place ts rest e (value.Fiber ∷ []) = tt
+  message_given ty place ts rest e (value.Ref n ∷ []) = some_is p b m h (Here (vtype ty ∷ ts)) tt (λ c. tt) (get h n) _ (λ object there.
+      some_is p b m h (Here (vtype ty ∷ ts)) tt (λ c. tt) (field_in object.fields message_field) _ (λ v has.
+      goes place (vtype ty ∷ ts) (v ∷ rest) (good_slot b m (vtype ty) v (vtype_set ty) (field_so b m object.fields message_field v (heap n object there).0 has), e)))
+
+  called : (id : MethodId) (args : List Value) (place : ℕ) (result : Option Ty) (ts : List VType) (rest : List Value) → ValuesSo b m args → StackSo b m ts rest →
+      ((other : Method) → method_at p id ≡ Some other → (is_constructor other ≡ false) × (other.result ≡ result)) → (o : Option Method) → method_at p id ≡ o → Here (result_types result ++ ts) (calls_method o id args place ls rest h)
+  called id args place result ts rest values e alike None at_it = tt
+  called id args place result ts rest values e alike (Some callee) at_it = by callee.built_in
+    where
+      none : NotBuilt p b id args
+      none other there con = absurd (let z = (alike other there).0 in cc)
+
+      gives : is_get_message callee ≡ true → Here (result_types result ++ ts) (gives_message args place ls rest h)
+      gives get =
+          let y = facts.gives_messages id callee at_it get in
+          subst (λ (o : Option Ty). Here (result_types o ++ ts) (gives_message args place ls rest h)) (sym y.2 ∙ (alike callee at_it).1) (message_given y.0.field.ty place ts rest e args)
+
+      keeps : is_message_constructor callee ≡ true → ⊥
+      keeps k = let con = (and_parts (is_constructor callee) _ (and_parts callee.built_in _ k).1).0 in let z = (alike callee at_it).0 in cc
+
+      built_in : (k g1 : Bool) → is_message_constructor callee ≡ k → is_get_message callee ≡ g1 →
+          Here (result_types result ++ ts) (cond k (keeps_message args place ls rest h) (cond g1 (gives_message args place ls rest h) (Asks id args place ls rest h)))
+      built_in true g1 k d = absurd (keeps k)
+      built_in false true k d = gives d
+      built_in false false k d = (inl (none, values, waits result ts rest e), heap)
+
+      by : (z : Bool) → Here (result_types result ++ ts) (cond z (calls_built_in callee id args place ls rest h) (Calls id args place ls rest h))
+      by true = built_in (is_message_constructor callee) (is_get_message callee) refl refl
+      by false = (none, values, waits result ts rest e, heap)
 
   missing_is : by_row p own at (Takes [] [] (needs 8 false ∷ [])) f ≡ Ok g → ⊥
   missing_is r = let z = (takes_inverse p own at [] [] (needs 8 false ∷ []) f g r).also_hold.0 in absurd (cc)
@@ -313,7 +349,7 @@ module _ (p : Program) (facts : Facts p) (built : (id : MethodId) (callee : Meth
         plain_one = is_not _ (and_parts (not (is_constructor callee)) true also.1.0).0
 
         none : (args : List Value) → NotBuilt p b id args
-        none args other there con = absurd (let z = itself_alike p callee id other e there plain_one in cc)
+        none args other there con = absurd (let z = (itself_alike p callee id other e there plain_one).0 in cc)
 
         given : (go : List Value → List Value → Effect) → ((ts : List VType) (xs rest : List Value) → ValuesSo b m (reverse xs) → StackSo b m ts rest → Here (result_types callee.result ++ ts) (go xs rest)) → After (on_values (length callee.params) vs go)
         given go k = takes (arguments callee) (result_types callee.result) (static_rules own callee) r _ (λ a ts t.
@@ -392,7 +428,7 @@ module _ (p : Program) (facts : Facts p) (built : (id : MethodId) (callee : Meth
           where
             on : (c : Option Ty) → Here (result_types callee.result ++ ts) (calls_on p callee id (reverse xs) next ls rest h v c)
             on None = tt
-            on (Some ty) = called (chosen p callee id ty) (v ∷ reverse xs) next callee.result ts rest values q (λ other there con. absurd (let z = virtual_alike p callee id ty other e plain_one there in cc)) (method_at p (chosen p callee id ty))
+            on (Some ty) = called (chosen p callee id ty) (v ∷ reverse xs) next callee.result ts rest values q (λ other there. virtual_alike p callee id ty other e plain_one there) (method_at p (chosen p callee id ty)) refl
 
     -- ---- invokespecial
 
@@ -500,14 +536,47 @@ module _ (p : Program) (facts : Facts p) (built : (id : MethodId) (callee : Meth
         args_took After tt (λ c. tt) callee [] (drop (length (arguments callee)) f.stack) (subst (λ (os : List Operand). TakenSo b m os (drop (length (arguments callee)) f.stack) vs) (sym (append-nil (arguments callee))) t) _ (λ xs below values q.
         on_this After tt (λ c. tt) callee (result_types callee.result) _ x.made below q _ (λ v rest k. by x v (reverse xs) rest (reversed_so b m xs values) k callee.built_in refl))
       where
-        by : (x : Constructed callee) (v : Value) (args rest : List Value) → ValuesSo b m args → Behind callee (result_types callee.result) (drop (length (arguments callee)) f.stack) x.made v rest → (z : Bool) → callee.built_in ≡ z →
-            After (cond z (Asks id (v ∷ args) next ls rest h) (Calls id (v ∷ args) next ls rest h))
-        by x v args rest values (Stays n l s) true own_is = subst (λ (z : Types). EffectSo p b m at z (Asks id (v ∷ args) next ls rest h)) x.made.after_is
+        asks : (x : Constructed callee) (v : Value) (args rest : List Value) → ValuesSo b m args → Behind callee (result_types callee.result) (drop (length (arguments callee)) f.stack) x.made v rest → After (Asks id (v ∷ args) next ls rest h)
+        asks x v args rest values (Stays n l s) = subst (λ (z : Types). EffectSo p b m at z (Asks id (v ∷ args) next ls rest h)) x.made.after_is
             (inl ((λ other at_it con. n), (other_value b m v n, values), record { locals = l; result = callee.result; types = replaced x.made.old x.made.new x.made.s; is = refl; stack = s }), heap)
+        asks x v args rest values (Turns q y raw is l s) = subst (λ (z : Types). EffectSo p b m at z (Asks id (v ∷ args) next ls rest h)) x.made.after_is
+            (inr (record { raw = is_raw m q raw; constructs = λ other at_it. ap is_constructor (sym (let z : callee ≡ other = cc in z)) ∙ con; first = y; waits = record { locals = l; result = callee.result; types = replaced x.made.old x.made.new x.made.s; is = refl; stack = s } }), heap)
+
+        -- the message of an exception is put into its field; a mailbox has none
+        keeps : (x : Constructed callee) (v : Value) (args rest : List Value) → ValuesSo b m args → Behind callee (result_types callee.result) (drop (length (arguments callee)) f.stack) x.made v rest → callee.result ≡ None → After (keeps_message (v ∷ args) next ls rest h)
+        keeps x v [] rest values k none = tt
+        keeps x v (a ∷ c ∷ cs) rest values k none = tt
+        keeps x (value.Int i) (a ∷ []) rest values k none = tt
+        keeps x (value.Long i) (a ∷ []) rest values k none = tt
+        keeps x value.Null (a ∷ []) rest values k none = tt
+        keeps x (value.Text u) (a ∷ []) rest values k none = tt
+        keeps x (value.Box u) (a ∷ []) rest values k none = tt
+        keeps x value.Fiber (a ∷ []) rest values k none = tt
+        keeps x (value.Ref n) (a ∷ []) rest values (Turns q y raw is l s) none = absurd (cc)
+        keeps x (value.Ref n) (a ∷ []) rest values (Stays away l s) none = some_is p b m h After tt (λ c. tt) (get h n) _ (λ object there.
+            some_is p b m h After tt (λ c. tt) (field_in object.fields message_field) _ (λ old has.
+            subst (λ (z : Types). EffectSo p b m at z (Goes next ls rest (insert h n (record object { fields = with_field object.fields message_field a })))) x.made.after_is (
+              inl (record { locals = l; stack = subst (λ (o : Option Ty). StackSo b m (result_types o ++ replaced x.made.old x.made.new x.made.s) rest) (sym none) s }),
+              insert_so b m h n (record object { fields = with_field object.fields message_field a }) heap (with_field_so b m object.fields message_field a (heap n object there).0 values.0, (heap n object there).1),
+            )))
+
+        no_message : is_get_message callee ≡ true → ⊥
+        no_message get =
+            let name : callee.name ≡ codes "getMessage" = text_is callee.name (codes "getMessage") (and_parts callee.built_in _ get).1 in
+            let no : false ≡ true = ap (λ (u : List ℕ). bytes_eq u (codes "<init>")) (sym name) ∙ con in
+            cc
+
+        by_kind : (x : Constructed callee) (v : Value) (args rest : List Value) → ValuesSo b m args → Behind callee (result_types callee.result) (drop (length (arguments callee)) f.stack) x.made v rest → callee.built_in ≡ true →
+            (k g1 : Bool) → is_message_constructor callee ≡ k → is_get_message callee ≡ g1 → After (cond k (keeps_message (v ∷ args) next ls rest h) (cond g1 (gives_message (v ∷ args) next ls rest h) (Asks id (v ∷ args) next ls rest h)))
+        by_kind x v args rest values k own_is true g1 c d = keeps x v args rest values k (facts.constructors id callee there own_is con).0
+        by_kind x v args rest values k own_is false true c d = absurd (no_message d)
+        by_kind x v args rest values k own_is false false c d = asks x v args rest values k
+
+        by : (x : Constructed callee) (v : Value) (args rest : List Value) → ValuesSo b m args → Behind callee (result_types callee.result) (drop (length (arguments callee)) f.stack) x.made v rest → (z : Bool) → callee.built_in ≡ z →
+            After (cond z (calls_built_in callee id (v ∷ args) next ls rest h) (Calls id (v ∷ args) next ls rest h))
+        by x v args rest values k true own_is = by_kind x v args rest values k own_is (is_message_constructor callee) (is_get_message callee) refl refl
         by x v args rest values (Stays n l s) false own_is = subst (λ (z : Types). EffectSo p b m at z (Calls id (v ∷ args) next ls rest h)) x.made.after_is
             ((λ other at_it con. n), (other_value b m v n, values), record { locals = l; result = callee.result; types = replaced x.made.old x.made.new x.made.s; is = refl; stack = s }, heap)
-        by x v args rest values (Turns q y raw is l s) true own_is = subst (λ (z : Types). EffectSo p b m at z (Asks id (v ∷ args) next ls rest h)) x.made.after_is
-            (inr (record { raw = is_raw m q raw; constructs = λ other at_it. ap is_constructor (sym (let z : callee ≡ other = cc in z)) ∙ con; first = y; waits = record { locals = l; result = callee.result; types = replaced x.made.old x.made.new x.made.s; is = refl; stack = s } }), heap)
         by x v args rest values (Turns q y raw is l s) false own_is = absurd (class_of (made_at own.code q) refl (x.made.class q is))
           where
             class_of : (o : Option ClassId) → made_at own.code q ≡ o → is_class callee.owner o ≡ true → ⊥
@@ -545,7 +614,7 @@ module _ (p : Program) (facts : Facts p) (built : (id : MethodId) (callee : Meth
         by false con r = subst Goal (sym (none con)) (takes (arguments callee ++ (Is (class_vtype callee.owner) ∷ [])) (result_types callee.result) (special_rules p own id callee) r _ (λ also ts t.
             args_took (Here (result_types callee.result ++ ts)) tt (λ c. tt) callee (Is (class_vtype callee.owner) ∷ []) ts t _ (λ xs below values u.
             receiver_took p b m h (Here (result_types callee.result ++ ts)) tt (λ c. tt) (Is (class_vtype callee.owner)) [] ts below u _ (λ v held rest q.
-            called (special p own callee id) (v ∷ reverse xs) next callee.result ts rest (held refl, reversed_so b m xs values) q (λ other there is. absurd (let z = special_alike p own callee id other e con there in cc)) (method_at p (special p own callee id))))))
+            called (special p own callee id) (v ∷ reverse xs) next callee.result ts rest (held refl, reversed_so b m xs values) q (λ other there. special_alike p own callee id other e con there) (method_at p (special p own callee id)) refl))))
 
   -- ---- new
 

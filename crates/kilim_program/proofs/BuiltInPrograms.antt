@@ -14,7 +14,9 @@ plain_keeps = record {
   frames = refl;
   frame_types = refl;
   handlers = refl;
-  built_in = record { own_classes = []; own_methods = []; classes = refl; methods = refl; bodies = refl };
+  catches = refl;
+  paused = refl;
+  built_in = record { own_classes = []; own_methods = []; own_fields = []; classes = refl; methods = refl; fields = refl; bodies = refl };
   members = refl;
   names = refl;
   class_names = refl;
@@ -38,7 +40,9 @@ woven_keeps = record {
   frames = refl;
   frame_types = refl;
   handlers = refl;
-  built_in = record { own_classes = []; own_methods = []; classes = refl; methods = refl; bodies = refl };
+  catches = refl;
+  paused = refl;
+  built_in = record { own_classes = []; own_methods = []; own_fields = []; classes = refl; methods = refl; fields = refl; bodies = refl };
   members = refl;
   names = refl;
   class_names = refl;

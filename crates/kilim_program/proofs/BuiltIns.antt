@@ -1,4 +1,5 @@
--- What is so of the constructor of each class of exceptions, is so of all of them; and what a table of classes says of each.
+-- What is so of the constructors of each class of exceptions and of `getMessage`, is so of all their methods; and what a table of classes
+-- says of each.
 use Rattle.std.proofs.Common.{◌≡◌, ℕ, zero, suc, ◌+◌, Bool, true, false, ◌||◌, List, [], ◌∷◌, ◌++◌, slice_get, Some, codes, refl, sym, ap, ◌∙◌, arith}
 use Rattle.std.specs.List.{list_all, list_any, AllByRecursion}
 use Rattle.std.specs.Str.{bytes_eq}
@@ -8,12 +9,28 @@ use Rattle.std.proofs.lemmas.Option.{none-some, same_Some}
 use Rattle.kilim_program.specs.declared.class.Class.{Class}
 use Rattle.kilim_program.specs.declared.class.Method.{Method}
 use Rattle.kilim_program.specs.declared.names.ClassId.{ClassId}
-use Rattle.kilim_program.specs.BuiltIn.{built_in_constructor, class_id, constructors_of, exception_rows, is_exception}
+use Rattle.kilim_program.specs.BuiltIn.{built_in_constructor, class_id, constructors_of, exception_methods, exception_numbers, exception_rows, get_message, is_exception, message_constructor}
 use Rattle.kilim_program.specs.Keeps.{each_class_from}
 
-pub constructors_too : (P : Method → Type 0) (first : ℕ) (ns : List ℕ) (rest : List Method) → ((c : ClassId) → P (built_in_constructor c)) → AllByRecursion P rest → AllByRecursion P (constructors_of first ns ++ rest)
-constructors_too P first [] rest each all = all
-constructors_too P first (n ∷ ns) rest each all = (each (class_id (first + n)), constructors_too P first ns rest each all)
+constructors_too : (P : Method → Type 0) (first : ℕ) (ns : List ℕ) (rest : List Method) → ((c : ClassId) → P (built_in_constructor c)) → ((c : ClassId) → P (message_constructor first c))
+    → AllByRecursion P rest → AllByRecursion P (constructors_of first ns ++ rest)
+constructors_too P first [] rest each told all = all
+constructors_too P first (n ∷ ns) rest each told all = (each (class_id (first + n)), (told (class_id (first + n)), constructors_too P first ns rest each told all))
+
+pub exceptions_too : (P : Method → Type 0) (first : ℕ) (rest : List Method) → ((c : ClassId) → P (built_in_constructor c)) → ((c : ClassId) → P (message_constructor first c))
+    → P (get_message first) → AllByRecursion P rest → AllByRecursion P (exception_methods first ++ rest)
+exceptions_too P first rest each told message all =
+    (each (class_id (first + 7)), (told (class_id (first + 7)), (message, constructors_too P first exception_numbers rest each told all)))
+
+-- and where something is known of each of their classes
+constructors_by : (P : Method → Type 0) (Q : ℕ → Type 0) (first : ℕ) (ns : List ℕ) (rest : List Method) → AllByRecursion Q ns → ((k : ℕ) → Q k → P (built_in_constructor (class_id (first + k))))
+    → ((k : ℕ) → Q k → P (message_constructor first (class_id (first + k)))) → AllByRecursion P rest → AllByRecursion P (constructors_of first ns ++ rest)
+constructors_by P Q first [] rest known each told all = all
+constructors_by P Q first (n ∷ ns) rest known each told all = (each n known.0, (told n known.0, constructors_by P Q first ns rest known.1 each told all))
+
+pub exceptions_by : (P : Method → Type 0) (Q : ℕ → Type 0) (first : ℕ) (rest : List Method) → AllByRecursion Q (7 ∷ exception_numbers) → ((k : ℕ) → Q k → P (built_in_constructor (class_id (first + k))))
+    → ((k : ℕ) → Q k → P (message_constructor first (class_id (first + k)))) → P (get_message first) → AllByRecursion P rest → AllByRecursion P (exception_methods first ++ rest)
+exceptions_by P Q first rest known each told message all = (each 7 known.0, (told 7 known.0, (message, constructors_by P Q first exception_numbers rest known.1 each told all)))
 
 -- what is so of their names
 by_rows : (test : List ℕ → Bool) (rows : List (List ℕ × ℕ)) (name : List ℕ) → list_all (λ (row : List ℕ × ℕ). test row.0) rows ≡ true → list_any (λ (row : List ℕ × ℕ). bytes_eq name row.0) rows ≡ true → test name ≡ true

@@ -50,7 +50,7 @@ fn push_part(text: &mut Vec<u8>, part: LeftOutPart) -> Result<(), NoMemory>
         LeftOutPart::Interface => b"interface",
         LeftOutPart::NoSuperFlag => b"no-super-flag",
         LeftOutPart::PausableConstructor => b"pausable-constructor",
-        LeftOutPart::Handlers => b"handlers",
+        LeftOutPart::PausableHandlers => b"pausable-handlers",
         LeftOutPart::TaskArray => b"task-array",
         LeftOutPart::Fiber => b"fiber",
         LeftOutPart::ParameterAnnotations => b"parameter-annotations",

@@ -1,6 +1,7 @@
 -- Calls and returns.
-use Rattle.std.proofs.Common.{◌≡◌, ◌∙◌, sym, ap, true, false, List, [], ◌∷◌, Option, Some, length, map, nat_le, nat_lt, suc, arith}
+use Rattle.std.proofs.Common.{◌≡◌, ◌∙◌, ◌<◌, sym, ap, refl, subst, true, false, List, [], ◌∷◌, Option, Some, length, map, nat_le, nat_lt, suc, arith}
 use Rattle.std.proofs.lemmas.List.{length-map}
+use Rattle.std.specs.List.{AllByRecursion}
 use Rattle.kilim_program.specs.declared.class.Method.{Method}
 use Rattle.kilim_run_machine.specs.Does.{narrowed_result}
 use Rattle.kilim_run_rows.specs.Outcome.{returned_by}
@@ -13,7 +14,7 @@ use Rattle.kilim_run_machine.specs.Moves as move
 use Rattle.kilim_run_machine.specs.Moves.{called, entered, push_result, receiver_of, returned}
 use Rattle.kilim_run_state.specs.declared.frames.frame.Frame.{Frame}
 use Rattle.kilim_run_state.specs.frames.Calls.{activation}
-use Rattle.kilim_run_interp.specs.Step.{IsWent, RanOn}
+use Rattle.kilim_run_interp.specs.Step.{CallerFits, IsRoomy, IsWent, RanOn, stack_limit}
 
 pub too_deep : (p : Program) (m : MethodId) (args : List Value) (a : Activation) (below : List Frame) (h : Objects) → nat_le 511 (length below) ≡ true → called p m args (a ∷ map activation below) h ≡ move.Ends cause.Depth
 too_deep p m args a below h full =
@@ -41,3 +42,18 @@ ends_all v below h none = ap (λ (b : List Frame). returned v (map activation b)
 
 pub returned_is : (own : Method) (stack rest : List Value) (v : Value) → stack ≡ v ∷ rest → returned_by own stack ≡ Some (narrowed_result own.result v)
 returned_is own stack rest v is = ap (returned_by own) is
+
+-- ---- the topmost of the frames below
+
+pub caller_fits : (p : Program) (below rest : List Frame) (caller : Frame) → below ≡ caller ∷ rest → CallerFits p (map activation below) → length caller.stack.values < stack_limit p caller.method
+caller_fits p below rest caller is fits = subst (λ (b : List Frame). CallerFits p (map activation b)) is fits
+
+pub callers_roomy : (p : Program) (below rest : List Frame) (caller : Frame) → below ≡ caller ∷ rest → AllByRecursion (IsRoomy p) below → IsRoomy p caller × AllByRecursion (IsRoomy p) rest
+callers_roomy p below rest caller is all = subst (AllByRecursion (IsRoomy p)) is all
+
+pub none_below : (below : List Frame) → length below ≡ 0 → below ≡ []
+none_below [] none = refl
+none_below (f ∷ fs) none = absurd (omega (arith, none))
+
+pub some_below : (below : List Frame) → (length below ≡ 0 → ⊥) → below ≡ [] → ⊥
+some_below below some none = some (ap length none)

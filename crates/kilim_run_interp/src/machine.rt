@@ -23,7 +23,6 @@ use kilim_run_state::EndCause;
 use kilim_run_state::frames::{Frame, Frames, Locals, Stack};
 use kilim_units::{NoMemory, Seq};
 use std::alloc::Global;
-use std::mem::replace;
 
 /// The most frames of a task.
 pub const MOST_FRAMES: usize = 512;
@@ -111,24 +110,6 @@ fn is_full(frames: &Frames) -> bool
     frames.below.len() >= MOST_FRAMES - 1
 }
 
-// The frame with which a method begins, with so many values on top of the stack as arguments.
-fn called_frame(
-    alloc: Global,
-    program: &Program,
-    id: MethodId,
-    count: usize,
-    frames: &Frames,
-) -> Result<Frame, NoMemory>
-    requires { count ≤ length frames.now.top.stack.values }
-    ensures frame { IfOk result (λ frame. activation frame ≡ entered program.now id (reverse (take count frames.now.top.stack.values))) }
-    ensures roomy { IfOk result (λ frame. IsRoomy program.now frame) }
-{
-    let Ok(args) = frames.top.stack.last(alloc, count) else {
-        return Err(NoMemory);
-    };
-    new_frame(alloc, program, id, args)
-}
-
 // A call of a method with code: its frame, or the end where there would be too many.
 fn enter(
     alloc: Global,
@@ -146,33 +127,32 @@ fn enter(
     if is_full(frames) {
         return Ok(Stepped::Ended(EndCause::Depth));
     }
-    let Ok(frame) = called_frame(alloc, program, id, count, frames) else {
-        return Err(NoMemory);
-    };
-    let Ok(()) = put_on(program, frame, count, next, frames) else {
+    let Ok(()) = put_on(alloc, program, id, count, next, frames) else {
         return Err(NoMemory);
     };
     Ok(Stepped::Went)
 }
 
-// Puts a frame on top. The one that was there has so many values less on its stack, and goes on at a place.
+// Puts the frame on top with which a method begins. The one that was there has so many values less on its stack, the arguments, and goes on at
+// a place.
 fn put_on(
+    alloc: Global,
     program: &Program,
-    frame: Frame,
+    id: MethodId,
     count: usize,
     next: u32,
     frames: &mut Frames,
 ) -> Result<(), NoMemory>
     requires count { count ≤ length frames.old.top.stack.values }
     requires roomy { AreRoomy program.now frames.old }
-    requires frame { IsRoomy program.now frame }
     ensures roomy { OnOk result (AreRoomy program.now frames.new) }
-    ensures calls { OnOk result (calls_of frames.new ≡ activation frame ∷ goes_on (activation frames.old.top) next frames.old.top.locals (drop count frames.old.top.stack.values) ∷ below_of frames.old) }
+    ensures calls { OnOk result (calls_of frames.new ≡ entered program.now id (reverse (take count frames.old.top.stack.values)) ∷ goes_on (activation frames.old.top) next frames.old.top.locals (drop count frames.old.top.stack.values) ∷ below_of frames.old) }
 {
-    frames.top.stack.drop_top(count);
-    frames.top.pc = next;
-    let caller = replace(&mut frames.top, frame);
-    let Ok(()) = frames.below.push(caller) else {
+    let (slots, room) = slots_of_method(program, id);
+    let Ok(()) = frames
+        .below
+        .call(alloc, &mut frames.top, id, count, slots, room, next)
+    else {
         return Err(NoMemory);
     };
     Ok(())
@@ -217,12 +197,10 @@ fn leave(program: &Program, frames: &mut Frames) -> Stepped
     ensures roomy { AreRoomy program.now frames.new }
     ensures steps { (heap : Objects) → Steps (returned None (below_of frames.old) heap) result (calls_of frames.old) frames.new heap heap }
 {
-    match frames.below.pop() {
-        Some(caller) => {
-            frames.top = caller;
-            Stepped::Went
-        }
-        None => Stepped::Returned,
+    if frames.below.go_back(&mut frames.top) {
+        Stepped::Went
+    } else {
+        Stepped::Returned
     }
 }
 
@@ -250,15 +228,15 @@ fn leave_with(program: &Program, own: &Method, frames: &mut Frames) -> Stepped
     ensures roomy { AreRoomy program.now frames.new }
     ensures steps { (heap : Objects) → Steps (returned (returned_by own.now frames.old.top.stack.values) (below_of frames.old) heap) result (calls_of frames.old) frames.new heap heap }
 {
-    match frames.below.pop() {
-        Some(mut caller) => {
-            let value = narrowed_result(own, top_value(&mut frames.top));
-            push_on(program, &mut caller, value);
-            frames.top = caller;
-            Stepped::Went
-        }
-        None => Stepped::Returned,
+    if frames.below.len() == 0 {
+        return Stepped::Returned;
     }
+    let value = narrowed_result(own, top_value(&mut frames.top));
+    if !frames.below.go_back(&mut frames.top) {
+        unreachable!()
+    }
+    push_on(program, &mut frames.top, value);
+    Stepped::Went
 }
 
 fn narrowed_result(own: &Method, value: Value) -> Value

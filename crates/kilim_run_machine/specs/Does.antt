@@ -23,6 +23,7 @@ use Rattle.kilim_program.specs.declared.ty.Base.TheVariants as base
 use Rattle.kilim_program.specs.declared.ty.Ty.{Ty}
 use Rattle.kilim_program.specs.declared.value.Value.{Value}
 use Rattle.kilim_program.specs.declared.value.Value.TheVariants.{Int, Long, Null, Ref, Text, Box, Fiber}
+use Rattle.kilim_program.specs.BuiltIn.{message_field}
 use Rattle.kilim_program.specs.Names.{class_at, class_name, field_of, method_at}
 use Rattle.kilim_program.specs.Same.{is_constructor, selected}
 use Rattle.kilim_program.specs.Fits.{fits_type}
@@ -30,7 +31,7 @@ use Rattle.kilim_run_state.specs.declared.cause.EndCause.TheVariants as cause
 use Rattle.kilim_run_state.specs.declared.value.Object.{Object}
 use Rattle.kilim_run_state.specs.Machine.{Objects}
 use Rattle.kilim_run_machine.specs.Raising.{thrown_cause}
-use Rattle.kilim_run_machine.specs.Natives.{is_built_in_constructor, is_handed_out, is_text_method}
+use Rattle.kilim_run_machine.specs.Natives.{is_built_in_constructor, is_get_message, is_handed_out, is_message_constructor, is_text_method}
 use Rattle.kilim_run_state.specs.Objects.{first_value_of, new_array, new_object}
 use Rattle.kilim_run_state.specs.Shapes.{field_in}
 use Rattle.kilim_run_machine.specs.Effect.{Effect, Goes, Makes, Opens, Calls, Asks, Returns, Raises, Throws, Ends, Stuck, with_some, on_value, on_values, on_receiver, as_reference, as_receiver, as_int, as_long, on_int, on_two_ints, on_long, on_two_longs, on_word, on_two_words, on_reference, as_object, on_object, as_class, at_index, when, on_constant, text_of}
@@ -224,10 +225,28 @@ chosen_on p named m dims b = m
 abbrev pub chosen : Program → Method → MethodId → Ty → MethodId
 chosen p named m ty = if named.is_private then m else chosen_on p named m ty.dims ty.base
 
+-- The constructor of an exception keeps the message, which is its second argument.
+abbrev pub keeps_message : List Value → ℕ → List Value → List Value → Objects → Effect
+keeps_message (receiver ∷ message ∷ []) next locals rest heap =
+    as_object receiver heap (λ n object. with_some (field_in object.fields message_field) (λ old.
+    Goes next locals rest (insert heap n (record object { fields = with_field object.fields message_field message }))))
+keeps_message args next locals rest heap = Stuck
+
+-- `getMessage` gives it.
+abbrev pub gives_message : List Value → ℕ → List Value → List Value → Objects → Effect
+gives_message (receiver ∷ []) next locals rest heap = as_object receiver heap (λ n object. with_some (field_in object.fields message_field) (λ v. Goes next locals (v ∷ rest) heap))
+gives_message args next locals rest heap = Stuck
+
+-- a built-in method that has a receiver
+abbrev pub calls_built_in : Method → MethodId → List Value → ℕ → List Value → List Value → Objects → Effect
+calls_built_in method m args next locals rest heap =
+    if is_message_constructor method then keeps_message args next locals rest heap
+    else (if is_get_message method then gives_message args next locals rest heap else Asks m args next locals rest heap)
+
 -- a method with code gets a frame, a built-in one none
 abbrev pub calls_method : Option Method → MethodId → List Value → ℕ → List Value → List Value → Objects → Effect
 calls_method None m args next locals rest heap = Stuck
-calls_method (Some method) m args next locals rest heap = if method.built_in then Asks m args next locals rest heap else Calls m args next locals rest heap
+calls_method (Some method) m args next locals rest heap = if method.built_in then calls_built_in method m args next locals rest heap else Calls m args next locals rest heap
 
 -- a call on a reference of that class, or on null
 abbrev pub calls_on : Program → Method → MethodId → List Value → ℕ → List Value → List Value → Objects → Value → Option Ty → Effect

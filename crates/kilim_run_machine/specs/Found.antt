@@ -17,7 +17,7 @@ use Rattle.kilim_program.specs.declared.ty.Ty.{Ty}
 use Rattle.kilim_program.specs.declared.ty.Qualifier.TheVariants.{Cuttable, Safe}
 use Rattle.kilim_program.specs.declared.value.Value.TheVariants.{Int, Long, Null, Ref}
 use Rattle.kilim_program.specs.Program.{Program}
-use Rattle.kilim_program.specs.BuiltIn.{class_id, method_id, plain_type, int_type, built_in_method, built_in_classes_in, built_in_methods_in}
+use Rattle.kilim_program.specs.BuiltIn.{class_id, field_id, method_id, plain_type, int_type, built_in_method, built_in_classes_in, built_in_fields, built_in_methods_in, class_type, get_message, message_constructor}
 use Rattle.kilim_program.specs.Examples.{built_in_program}
 use Rattle.kilim_program.specs.Same.{same_flag}
 use Rattle.kilim_run_state.specs.declared.value.Object.{Object}
@@ -35,9 +35,6 @@ use Rattle.kilim_run_machine.specs.Raising.{array_index, handler_of, raised_clas
 
 -- `A` has an int and a static int, its subclass `B` a long. The task `T` has an `execute`, its subclass `N` has none, and the
 -- task `P` has a private one. The built-in classes stand behind them, from number 5 on, with their methods from 2 on.
-abbrev pub field_id : ℕ → FieldId
-field_id n = record { 0 = n }
-
 abbrev pub field_of_class : ℕ → List ℕ → Ty → Bool → Field
 field_of_class owner name ty is_static = record { name = name; ty = ty; owner = class_id owner; is_static = is_static; is_private = false; constant = None }
 
@@ -51,14 +48,14 @@ own_execute owner is_private = record (built_in_method (codes "execute") (class_
 abbrev pub by_hand : Program
 by_hand = record {
   classes =
-      class_with (codes "A") 5 (field_id 0 ∷ field_id 1 ∷ []) []
-      ∷ class_with (codes "B") 0 (field_id 2 ∷ []) []
+      class_with (codes "A") 5 (field_id 1 ∷ field_id 2 ∷ []) []
+      ∷ class_with (codes "B") 0 (field_id 3 ∷ []) []
       ∷ class_with (codes "T") 9 [] (0 ∷ [])
       ∷ class_with (codes "N") 2 [] []
       ∷ class_with (codes "P") 9 [] (1 ∷ [])
       ∷ built_in_classes_in Plain 5 2;
   methods = own_execute 2 false ∷ own_execute 4 true ∷ built_in_methods_in Plain 5;
-  fields = field_of_class 0 (codes "a") int_type false ∷ field_of_class 0 (codes "s") int_type true ∷ field_of_class 1 (codes "b") (plain_type base.Long) false ∷ [];
+  fields = built_in_fields 5 ++ field_of_class 0 (codes "a") int_type false ∷ field_of_class 0 (codes "s") int_type true ∷ field_of_class 1 (codes "b") (plain_type base.Long) false ∷ [];
   form = Plain;
 }
 
@@ -66,13 +63,14 @@ by_hand = record {
 
 abbrev pub Fields : Type 0
 Fields =
-    (object_fields by_hand (class_id 1) ≡ field_id 0 ∷ field_id 2 ∷ [])
-    × (object_fields by_hand (class_id 1) ≡ field_id 2 ∷ field_id 0 ∷ [] → ⊥)
-    × ((new_object by_hand (class_id 1)).fields ≡ (field_id 0, Int (pos 0)) ∷ (field_id 2, Long (pos 0)) ∷ [])
+    (object_fields by_hand (class_id 1) ≡ field_id 1 ∷ field_id 3 ∷ [])
+    × (object_fields by_hand (class_id 1) ≡ field_id 3 ∷ field_id 1 ∷ [] → ⊥)
+    × ((new_object by_hand (class_id 1)).fields ≡ (field_id 1, Int (pos 0)) ∷ (field_id 3, Long (pos 0)) ∷ [])
+    × ((new_object by_hand (class_id 14)).fields ≡ (field_id 0, Null) ∷ [])
 
 -- an object whose fields stand the other way round
 abbrev pub turned : Object
-turned = record { class = record { dims = 0; base = base.Class (class_id 1) }; fields = (field_id 2, Long (pos 8)) ∷ (field_id 0, Int (pos 7)) ∷ []; elements = [] }
+turned = record { class = record { dims = 0; base = base.Class (class_id 1) }; fields = (field_id 3, Long (pos 8)) ∷ (field_id 1, Int (pos 7)) ∷ []; elements = [] }
 
 abbrev pub Shape : Type 0
 Shape = value_tokens by_hand (λ n. Some turned) 1 (Ref 0) ≡ Some (token.Open (codes "B") ∷ token.Int (pos 7) ∷ token.Long (pos 8) ∷ token.Close ∷ [])
@@ -90,14 +88,15 @@ Executes =
 
 -- ---- built-in methods
 
--- In the order of the built-in methods: constructors, strings' methods and `take` are the table's own.
+-- In the order of the built-in methods: constructors, strings' methods, `take` and `getMessage` are the table's own.
 abbrev pub handed_out : List Bool
 handed_out =
     false ∷ false ∷ false ∷ false
     ∷ false ∷ true ∷ true
     ∷ false ∷ true ∷ true ∷ true ∷ true ∷ true
     ∷ true ∷ true ∷ true ∷ true ∷ true ∷ true ∷ false
-    ∷ false ∷ false ∷ false ∷ false ∷ false ∷ false ∷ false ∷ false ∷ false ∷ false ∷ false
+    ∷ false ∷ false ∷ false
+    ∷ false ∷ false ∷ false ∷ false ∷ false ∷ false ∷ false ∷ false ∷ false ∷ false ∷ false ∷ false ∷ false ∷ false ∷ false ∷ false ∷ false ∷ false ∷ false ∷ false
     ∷ []
 
 abbrev pub fiber_handed_out : List Bool

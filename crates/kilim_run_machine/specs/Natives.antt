@@ -1,11 +1,13 @@
 -- The methods of built-in classes, which have no code. A few of them the table of instructions does itself: the constructors
--- without parameters, the methods of strings, and `kilim/Sys.take`. Each other one reaches out of the task or into its
--- fiber, so it is handed out: what it does is no matter of one instruction.
-use Rattle.std.specs.Prelude.{ℕ, Bool, ◌&&◌, ◌||◌, not, if◌then◌else◌, List, [], ◌∷◌, Option, Some, None, codes}
+-- without parameters, the methods of strings, `kilim/Sys.take`, and what keeps and gives the message of an exception. Each
+-- other one reaches out of the task or into its fiber, so it is handed out: what it does is no matter of one instruction.
+use Rattle.std.specs.Prelude.{ℕ, Bool, false, ◌&&◌, ◌||◌, not, if◌then◌else◌, List, [], ◌∷◌, Option, Some, None, codes}
 use Rattle.std.specs.Str.{bytes_eq}
 use Rattle.kilim_program.specs.declared.class.Method.{Method}
 use Rattle.kilim_program.specs.Program.{Program}
 use Rattle.kilim_program.specs.declared.names.MethodId.{MethodId}
+use Rattle.kilim_program.specs.declared.ty.Ty.{Ty}
+use Rattle.kilim_program.specs.Lengths.{is_reference}
 use Rattle.kilim_program.specs.Names.{◌>>=◌, method_at, class_name, is_empty}
 
 -- ---- what the table does itself
@@ -27,12 +29,28 @@ is_text_method p method = is_built_in_of p (codes "java/lang/String") method
 abbrev pub is_take : Program → Method → Bool
 is_take p method = is_built_in_of p (codes "kilim/Sys") method && bytes_eq method.name (codes "take")
 
+-- there is one parameter, and it is a reference
+abbrev pub takes_object : List Ty → Bool
+takes_object [] = false
+takes_object (ty ∷ tys) = is_reference ty && is_empty tys
+
+-- The constructor of an exception that is given the message; among the built-in constructors no other takes a reference.
+abbrev pub is_message_constructor : Method → Bool
+is_message_constructor method = method.built_in && (bytes_eq method.name (codes "<init>") && takes_object method.params)
+
+-- No other built-in method has this name.
+abbrev pub is_get_message : Method → Bool
+is_get_message method = method.built_in && bytes_eq method.name (codes "getMessage")
+
+abbrev pub is_of_message : Method → Bool
+is_of_message method = is_message_constructor method || is_get_message method
+
 -- ---- what is handed out
 
 -- of a class of that name
 abbrev pub is_handed_out_of : List ℕ → Method → Bool
 is_handed_out_of class method =
-    method.built_in && not (is_built_in_constructor method || (is_of class (codes "java/lang/String") method || (is_of class (codes "kilim/Sys") method && bytes_eq method.name (codes "take"))))
+    method.built_in && not (is_built_in_constructor method || (is_of class (codes "java/lang/String") method || ((is_of class (codes "kilim/Sys") method && bytes_eq method.name (codes "take")) || is_of_message method)))
 
 abbrev pub is_handed_out : Program → Method → Bool
 is_handed_out p method = is_handed_out_of (class_name p method.owner) method

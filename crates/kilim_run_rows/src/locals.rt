@@ -113,11 +113,8 @@ pub fn load_reference(
     ensures step { Shows own.now (does program.now own.now (Aload slot) next frame.old.locals frame.old.stack.values heap.now) next result frame.old frame.new heap.now heap.now }
     ensures same { SameFrame frame.old frame.new }
 {
-    match frame.locals.get(usize::from(slot)).clone() {
-        Ok(value) => {
-            frame.stack.push(value);
-            Moved::Next
-        }
+    match frame.stack.push_copy(frame.locals.get(usize::from(slot))) {
+        Ok(()) => Moved::Next,
         Err(_) => Moved::NoMemory,
     }
 }

@@ -31,11 +31,8 @@ pub fn read_field(
     let Some(at) = frame.stack.pop_object() else {
         return Moved::Raised(EndCause::Null);
     };
-    match heap.field(at, field).clone() {
-        Ok(value) => {
-            frame.stack.push(value);
-            Moved::Next
-        }
+    match frame.stack.push_copy(heap.field(at, field)) {
+        Ok(()) => Moved::Next,
         Err(_) => Moved::NoMemory,
     }
 }
@@ -197,11 +194,8 @@ pub fn read_reference(
     let Some(index) = index_in(heap, at, i) else {
         return Moved::Raised(EndCause::Index);
     };
-    match heap.element(at, index).clone() {
-        Ok(value) => {
-            frame.stack.push(value);
-            Moved::Next
-        }
+    match frame.stack.push_copy(heap.element(at, index)) {
+        Ok(()) => Moved::Next,
         Err(_) => Moved::NoMemory,
     }
 }

@@ -1,5 +1,5 @@
 -- Fields by their names.
-use Rattle.std.proofs.Common.{◌≡◌, ℕ, zero, suc, ◌+◌, ◌<◌, ◌==◌, Bool, true, false, List, [], ◌∷◌, ◌++◌, Option, Some, None, length, get_or, set, drop, take, refl, sym, ap, subst, ◌∙◌, arith, rules, drop-cons, add-one}
+use Rattle.std.proofs.Common.{◌≡◌, ℕ, zero, suc, ◌+◌, ◌<◌, ◌==◌, Bool, true, false, List, [], ◌∷◌, ◌++◌, Option, Some, None, length, get_or, set, drop, take, refl, sym, ap, subst, ◌∙◌, arith, rules, drop-cons, add-one, true≢false}
 use Rattle.std.specs.Prelude.{IsSome, slice_get, if◌then◌else◌}
 use Rattle.std.specs.FinMap.{get, insert}
 use Rattle.kilim_program.specs.declared.names.FieldId.{FieldId}
@@ -9,8 +9,8 @@ use Rattle.kilim_run_state.specs.Machine.{Objects}
 use Rattle.kilim_program.specs.Names.{◌>>=◌}
 use Rattle.kilim_run_state.specs.Shapes.{field_in}
 use Rattle.kilim_run_state.specs.Places.{IsPlaceOf, IsArena, objects_from}
-use Rattle.kilim_run_state.specs.Words.{with_field_in, changed, changed_to, element_at, field_at}
-use Rattle.kilim_run_state.proofs.Arena.{still_arena, now_replaced, found_in}
+use Rattle.kilim_run_state.specs.Words.{with_field_in, changed, changed_one, changed_to, element_at, field_at}
+use Rattle.kilim_run_state.proofs.Arena.{at_place, still_arena, now_replaced, found_in}
 
 Fields : Type 0
 Fields = List (FieldId × Value)
@@ -88,26 +88,27 @@ found_nowhere fields f v i n e =
 
 -- ---- an object that is changed in its place
 
-set_again : (ps : List (Option Object)) (q : ℕ) (v w : Option Object) → set (set ps q v) q w ≡ set ps q w
-set_again [] q v w = refl
-set_again (p ∷ ps) zero v w = refl
-set_again (p ∷ ps) (suc q) v w = ap (λ ps. p ∷ ps) (set_again ps q v w)
+pub changed_arena : (ps ps' : List (Option Object)) (fs : List ℕ) (q : ℕ) (g : Object → Object) (v : Option Object) (room : ℕ) → IsArena ps fs room → get_or ps q None ≡ v → IsSome v → ps' ≡ set ps q (changed_one g v) → IsArena ps' fs room
+changed_arena ps ps' fs q g None room a e some p = absurd (true≢false (sym some))
+changed_arena ps ps' fs q g (Some o) room a e some p = still_arena ps ps' fs q o (g o) room a e p
 
-pub changed_arena : (ps mid ps' : List (Option Object)) (fs : List ℕ) (q : ℕ) (o new : Object) (room : ℕ) → IsArena ps fs room → get_or ps q None ≡ Some o → mid ≡ set ps q None → ps' ≡ set mid q (Some new) → IsArena ps' fs room
-changed_arena ps mid ps' fs q o new room a e m p = still_arena ps ps' fs q o new room a e (p ∙ (ap (λ ps. set ps q (Some new)) m ∙ set_again ps q None (Some new)))
+pub now_changed : (h : Objects) (ps ps' : List (Option Object)) (q : ℕ) (g : Object → Object) (v : Option Object) → objects_from 0 ps ≡ h → get_or ps q None ≡ v → IsSome v → ps' ≡ set ps q (changed_one g v) → objects_from 0 ps' ≡ changed h q g
+now_changed h ps ps' q g None e there some p = absurd (true≢false (sym some))
+now_changed h ps ps' q g (Some o) e there some p = now_replaced h ps ps' q o (g o) e there p ∙ ap (λ x. changed_to h q x g) (sym (found_in ps h q (Some o) e there))
 
-pub now_changed : (h : Objects) (ps mid ps' : List (Option Object)) (q : ℕ) (o new : Object) (g : Object → Object) → objects_from 0 ps ≡ h → get_or ps q None ≡ Some o → mid ≡ set ps q None → ps' ≡ set mid q (Some new) → new ≡ g o → objects_from 0 ps' ≡ changed h q g
-now_changed h ps mid ps' q o new g e there m p is =
-    now_replaced h ps ps' q o new e there (p ∙ (ap (λ ps. set ps q (Some new)) m ∙ set_again ps q None (Some new)))
-    ∙ (ap (insert h q) is ∙ ap (λ x. changed_to h q x g) (sym (found_in ps h q (Some o) e there)))
+same_place : (ps : List (Option Object)) (h : Objects) (q : ℕ) → objects_from 0 ps ≡ h → get h q ≡ get_or ps q None
+same_place ps h q e = ap (λ (x : Objects). get x q) (sym e) ∙ at_place ps q
 
-some_within : (xs : List Value) (n : ℕ) → IsSome (slice_get xs n) → n < length xs
+pub field_in_place : (ps : List (Option Object)) (h : Objects) (q : ℕ) (f : FieldId) → objects_from 0 ps ≡ h → IsSome (field_at h q f) → IsSome (get_or ps q None >>= λ (o : Object). field_in o.fields f)
+field_in_place ps h q f e there = subst (λ (x : Option Object). IsSome (x >>= λ (o : Object). field_in o.fields f)) (same_place ps h q e) there
+
+pub element_in_place : (ps : List (Option Object)) (h : Objects) (q n : ℕ) → objects_from 0 ps ≡ h → IsSome (element_at h q n) → IsSome (get_or ps q None >>= λ (o : Object). slice_get o.elements n)
+element_in_place ps h q n e there = subst (λ (x : Option Object). IsSome (x >>= λ (o : Object). slice_get o.elements n)) (same_place ps h q e) there
+
+pub some_within : (xs : List Value) (n : ℕ) → IsSome (slice_get xs n) → n < length xs
 some_within [] n h = cc
 some_within (x ∷ xs) zero h = omega arith
 some_within (x ∷ xs) (suc n) h = let h' = some_within xs n h in omega arith
 
 pub element_within : (h : Objects) (q n : ℕ) (o : Object) → get h q ≡ Some o → IsSome (element_at h q n) → n < length o.elements
 element_within h q n o e there = some_within o.elements n (subst (λ (x : Option Object). IsSome (x >>= λ (o : Object). slice_get o.elements n)) e there)
-
-pub field_there : (h : Objects) (q : ℕ) (f : FieldId) (o : Object) → get h q ≡ Some o → IsSome (field_at h q f) → IsSome (field_in o.fields f)
-field_there h q f o e there = subst (λ (x : Option Object). IsSome (x >>= λ (o : Object). field_in o.fields f)) e there

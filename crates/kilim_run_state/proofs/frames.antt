@@ -1,3 +1,4 @@
 mod Backwards
+mod Levels
 mod Loops
 mod Slots

@@ -38,6 +38,18 @@ changed_to heap at (Some o) g = insert heap at (g o)
 abbrev pub changed : Objects → ℕ → (Object → Object) → Objects
 changed heap at g = changed_to heap at (get heap at) g
 
+-- a field and an element of an object, where there is one
+abbrev pub field_from : Option Object → FieldId → Option Value
+field_from o f = o >>= λ (x : Object). field_in x.fields f
+
+abbrev pub element_from : Option Object → ℕ → Option Value
+element_from o i = o >>= λ (x : Object). slice_get x.elements i
+
+-- an object that is changed, where there is one
+abbrev pub changed_one : (Object → Object) → Option Object → Option Object
+changed_one g None = None
+changed_one g (Some o) = Some (g o)
+
 -- the heap with another value in a field or an element
 abbrev pub with_field : Objects → ℕ → FieldId → Value → Objects
 with_field heap at f v = changed heap at (λ o. record o { fields = with_field_in o.fields f v })

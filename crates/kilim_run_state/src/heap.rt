@@ -2,7 +2,8 @@
 
 ghost use Rattle.std.specs.Prelude.{◌≡◌, ◌<◌, ◌≤◌, ◌++◌, ◌∷◌, [], length, Some, None, IfOk, IfErr, IsSome, slice_index_or, slice_set, vec_len, vec_capacity};
 ghost use Rattle.std.specs.FinMap.{empty, get, insert, remove as without};
-ghost use Rattle.kilim_run_state.specs.Words.{IsThere, class_at, length_at, field_at, element_at, with_field_in, with_field, with_element};
+ghost use Rattle.kilim_run_state.specs.Words.{IsThere, class_at, length_at, field_at, element_at, with_field_in, with_field, with_element, changed_one, field_from, element_from};
+ghost use Rattle.kilim_run_state.specs.declared.value.Object.{Object};
 ghost use Rattle.kilim_run_state.specs.Shapes.{field_in};
 ghost use Rattle.kilim_run_state.specs.Places.{IsArena, IsPlaceOf};
 
@@ -100,9 +101,7 @@ impl Heap {
         requires field { IsSome (field_at self.old at field) }
         ensures { self.new ≡ with_field self.old at field value }
     {
-        let mut object = exchange(&mut self.places, at as usize, None);
-        set_field_in(&mut object.fields, field, value);
-        fill(&mut self.places, at as usize, object);
+        set_field_at(&mut self.places, at as usize, field, value);
     }
 
     /// Another value as an element. Takes no memory.
@@ -111,9 +110,7 @@ impl Heap {
         requires element { IsSome (element_at self.old at index) }
         ensures { self.new ≡ with_element self.old at index value }
     {
-        let mut object = exchange(&mut self.places, at as usize, None);
-        set_element_in(&mut object.elements, index, value);
-        fill(&mut self.places, at as usize, object);
+        set_element_at(&mut self.places, at as usize, index, value);
     }
 
     /// Adds an object at a free place. For want of memory the object comes back.
@@ -222,6 +219,46 @@ fn set_field_in(fields: &mut Seq<(FieldId, Value)>, field: FieldId, value: Value
 {
     let at = place_of(fields.as_slice(), field);
     set_at(&mut fields.items, at, value);
+}
+
+// Another value in a field of the object at a place.
+#[inline(always)]
+fn set_field_at(places: &mut Vec<Option<Object>>, at: usize, field: FieldId, value: Value)
+    requires { IsSome (field_from (slice_index_or places.old.items at None) field) }
+    ensures { places.new.items ≡ slice_set places.old.items at (changed_one (λ (o : Object). record o { fields = with_field_in o.fields field value }) (slice_index_or places.old.items at None)) }
+{
+    set_field_of(&mut places[at], field, value);
+}
+
+#[inline(always)]
+fn set_field_of(place: &mut Option<Object>, field: FieldId, value: Value)
+    requires { IsSome (field_from place.old field) }
+    ensures { place.new ≡ changed_one (λ (o : Object). record o { fields = with_field_in o.fields field value }) place.old }
+{
+    match place {
+        Some(object) => set_field_in(&mut object.fields, field, value),
+        None => unreachable!(),
+    }
+}
+
+// Another value as an element of the object at a place.
+#[inline(always)]
+fn set_element_at(places: &mut Vec<Option<Object>>, at: usize, index: usize, value: Value)
+    requires { IsSome (element_from (slice_index_or places.old.items at None) index) }
+    ensures { places.new.items ≡ slice_set places.old.items at (changed_one (λ (o : Object). record o { elements = slice_set o.elements index value }) (slice_index_or places.old.items at None)) }
+{
+    set_element_of(&mut places[at], index, value);
+}
+
+#[inline(always)]
+fn set_element_of(place: &mut Option<Object>, index: usize, value: Value)
+    requires { IsSome (element_from place.old index) }
+    ensures { place.new ≡ changed_one (λ (o : Object). record o { elements = slice_set o.elements index value }) place.old }
+{
+    match place {
+        Some(object) => set_element_in(&mut object.elements, index, value),
+        None => unreachable!(),
+    }
 }
 
 fn set_at(fields: &mut Vec<(FieldId, Value)>, at: usize, value: Value)

@@ -7,3 +7,4 @@ mod InstructionTable
 mod Searching
 mod EdgeFiles
 mod RelatedFiles
+mod TableFiles

@@ -1,4 +1,5 @@
 mod Bounds
 mod Caught
+mod Exceptions
 mod FibersCatch
 mod States

@@ -6,3 +6,4 @@ pub mod Instructions
 pub mod Search
 pub mod Edges
 pub mod Relations
+pub mod Tables

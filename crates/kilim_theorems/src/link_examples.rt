@@ -9,6 +9,7 @@ ghost use Rattle.kilim_theorems.specs.link_examples.Instructions.{InstructionsAg
 ghost use Rattle.kilim_theorems.specs.link_examples.Programs.{ProgramsAreLinked};
 ghost use Rattle.kilim_theorems.specs.link_examples.Relations.{RelationsHold};
 ghost use Rattle.kilim_theorems.specs.link_examples.Search.{SearchesHold};
+ghost use Rattle.kilim_theorems.specs.link_examples.Tables.{TablesHold};
 
 /// A law, and no work: the class file of 235 bytes links to the program that prints 7, which is a program.
 pub fn a_is_linked()
@@ -56,4 +57,9 @@ pub fn edges_hold()
 /// qualified and pause.
 pub fn relations_hold()
     ensures { RelationsHold }
+{}
+
+/// A law, and no work: exception tables of methods that don't pause: which entries stand, what they catch, and what they link to.
+pub fn tables_hold()
+    ensures { TablesHold }
 {}

@@ -2,6 +2,7 @@
 
 ghost use Rattle.kilim_theorems.specs.run_examples.Bounds.{BoundsAtEdges};
 ghost use Rattle.kilim_theorems.specs.run_examples.Caught.{CaughtCountsOnce};
+ghost use Rattle.kilim_theorems.specs.run_examples.Exceptions.{ExceptionsLand};
 ghost use Rattle.kilim_theorems.specs.run_examples.FibersCatch.{FibersCatch};
 ghost use Rattle.kilim_theorems.specs.run_examples.States.{StatesAreJudged};
 
@@ -14,6 +15,12 @@ pub fn states_are_judged()
 /// built-in method raises it.
 pub fn caught_counts_once()
     ensures { CaughtCountsOnce }
+{}
+
+/// A law, and no work: a division by zero, computed, of a thread and of a fiber: caught by the first entry that has the place and catches the
+/// class, caught below a frame without a table, and caught by none, which ends the task.
+pub fn exceptions_land()
+    ensures { ExceptionsLand }
 {}
 
 /// A law, and no work: a woven fiber catches as the thread beside it does. Both go on at the frames that are left, with one instruction

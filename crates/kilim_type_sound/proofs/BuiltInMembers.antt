@@ -1,8 +1,7 @@
 -- Static built-in methods that aren't handed out take the element of an array, and the methods of strings are three.
 use Rattle.std.proofs.Common.{◌≡◌, ℕ, zero, suc, ◌+◌, Bool, true, false, List, [], ◌∷◌, ◌++◌, length, Option, Some, None, refl, ap, subst, ◌∙◌}
-use Rattle.std.specs.Prelude.{◌&&◌, ◌||◌, not, slice_get, codes}
+use Rattle.std.specs.Prelude.{not, slice_get, codes}
 use Rattle.std.specs.List.{list_all, AllByRecursion}
-use Rattle.std.specs.Str.{bytes_eq}
 use Rattle.std.proofs.lemmas.Bool.{and_parts}
 use Rattle.kilim_program.specs.declared.class.Class.{Class}
 use Rattle.kilim_program.specs.declared.class.Form.TheVariants.{Plain, Woven}
@@ -13,11 +12,11 @@ use Rattle.kilim_program.specs.declared.names.MethodId.{MethodId}
 use Rattle.kilim_program.specs.declared.ty.Base.TheVariants as base
 use Rattle.kilim_program.specs.declared.ty.Qualifier.TheVariants.{Safe}
 use Rattle.kilim_program.specs.Program.{Program}
-use Rattle.kilim_program.specs.BuiltIn.{built_in_classes_in, built_in_method, built_in_methods_in, class_id, class_type, exception_numbers, fiber_methods, fiber_params, fiber_qualifiers, fiber_type, int_type, on_fiber, plain_type}
-use Rattle.kilim_program.proofs.BuiltIns.{constructors_too}
+use Rattle.kilim_program.specs.BuiltIn.{built_in_classes_in, built_in_method, built_in_methods_in, class_id, class_type, fiber_methods, fiber_params, fiber_qualifiers, fiber_type, int_type, on_fiber, plain_type}
+use Rattle.kilim_program.proofs.BuiltIns.{exceptions_too}
 use Rattle.kilim_program.specs.Names.{class_name, method_at}
 use Rattle.kilim_program.specs.Keeps.{Keeps}
-use Rattle.kilim_run_machine.specs.Natives.{is_built_in_constructor, is_handed_out}
+use Rattle.kilim_run_machine.specs.Natives.{is_handed_out, is_handed_out_of}
 use Rattle.kilim_lemmas.proofs.Lists.{get_right}
 use Rattle.kilim_type_laws.proofs.members.FromKeeps.{all_weaker, own_body}
 use Rattle.kilim_type_laws.proofs.members.ValueClasses.{all_of_at}
@@ -28,8 +27,7 @@ TakesElement m = (k : ClassId) × (m.params ≡ record { dims = 1; base = base.C
 
 -- whether a method of a class of that name is handed out
 abbrev hands : Method → List ℕ → Bool
-hands m name =
-    m.built_in && not (is_built_in_constructor m || ((m.built_in && bytes_eq name (codes "java/lang/String")) || ((m.built_in && bytes_eq name (codes "kilim/Sys")) && bytes_eq m.name (codes "take"))))
+hands m name = is_handed_out_of name m
 
 abbrev TakesOnly : Program → Method → Type 0
 TakesOnly p m = m.is_static ≡ true → is_handed_out p m ≡ false → TakesElement m
@@ -80,7 +78,7 @@ module _ (p : Program) where
                                           handed (built_in_method (codes "arg") (class_id (n + 6)) (int_type ∷ []) (Some int_type) true false Safe (Safe ∷ [])) (codes "kilim/Sys") sys refl,
                                           (
                                             (λ s h. (class_id (n + 2), refl, refl)),
-                                            constructors_too (TakesOnly p) n exception_numbers [] (λ c s h. absurd (let z : false ≡ true = s in cc)) tt,
+                                            exceptions_too (TakesOnly p) n [] (λ c s h. absurd (let z : false ≡ true = s in cc)) (λ c s h. absurd (let z : false ≡ true = s in cc)) (λ s h. absurd (let z : false ≡ true = s in cc)) tt,
                                           ),
                                         ),
                                       ),
@@ -143,7 +141,7 @@ module _ (p : Program) where
                                           handed (built_in_method (codes "arg") (class_id (n + 6)) (int_type ∷ []) (Some int_type) true false Safe (Safe ∷ [])) (codes "kilim/Sys") sys refl,
                                           (
                                             (λ s h. (class_id (n + 2), refl, refl)),
-                                            constructors_too (TakesOnly p) n exception_numbers (fiber_methods Woven n) (λ c s h. absurd (let z : false ≡ true = s in cc)) (
+                                            exceptions_too (TakesOnly p) n (fiber_methods Woven n) (λ c s h. absurd (let z : false ≡ true = s in cc)) (λ c s h. absurd (let z : false ≡ true = s in cc)) (λ s h. absurd (let z : false ≡ true = s in cc)) (
                                               (λ s h. absurd (let z : false ≡ true = s in cc)),
                                               (
                                                 (λ s h. absurd (let z : false ≡ true = s in cc)),

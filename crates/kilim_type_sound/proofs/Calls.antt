@@ -17,7 +17,7 @@ use Rattle.kilim_program.specs.declared.verified.VType.{VType}
 use Rattle.kilim_program.specs.declared.verified.VType.TheVariants.{Top, Int, Long, Null, UninitThis, Uninit, Object}
 use Rattle.kilim_program.specs.Program.{Program}
 use Rattle.kilim_run_state.specs.Machine.{Objects}
-use Rattle.kilim_program.specs.BuiltIn.{class_type, plain_type}
+use Rattle.kilim_program.specs.BuiltIn.{class_type, message_field, plain_type}
 use Rattle.kilim_program.specs.Names.{class_at, method_at, class_name}
 use Rattle.kilim_program.specs.Members.{is_concrete}
 use Rattle.kilim_program.specs.Kinds.{is_value_class}
@@ -26,21 +26,24 @@ use Rattle.std.specs.Int.{w32, cast_signed}
 use Rattle.std.specs.Str.{bytes_eq}
 use Rattle.kilim_program.specs.Same.{is_constructor}
 use Rattle.kilim_program.specs.Fits.{fits_type}
-use Rattle.kilim_run_machine.specs.Effect.{when, text_of, as_int, Effect, Goes, Calls, Asks, Raises, on_value, on_values, on_receiver, as_receiver, as_class}
+use Rattle.kilim_run_state.specs.Shapes.{field_in}
+use Rattle.kilim_run_machine.specs.Effect.{when, text_of, as_int, with_some, Effect, Goes, Calls, Asks, Raises, on_value, on_values, on_receiver, as_receiver, as_class}
 use Rattle.kilim_program.specs.Members.{named_type}
-use Rattle.kilim_run_machine.specs.Does.{text_answers, is_text, at_unit, unit_at, bit, calls_text, calls_method, calls_on, chosen, special}
-use Rattle.kilim_run_machine.specs.Natives.{is_text_method}
+use Rattle.kilim_run_machine.specs.Does.{text_answers, is_text, at_unit, unit_at, bit, calls_built_in, calls_text, calls_method, calls_on, chosen, gives_message, keeps_message, special}
+use Rattle.kilim_run_machine.specs.Natives.{is_get_message, is_message_constructor, is_text_method}
 use Rattle.kilim_type_spec.specs.Step.{may_name, special_fits, all_meet, Types, Operand, Is, Further, Takes, by_row, arguments, result_types, vtype, dims_vtype, base_vtype, class_vtype, is_top, assignable}
 use Rattle.kilim_type_spec.specs.Typed.{writes, edges, Among}
 use Rattle.kilim_type_sound.specs.Fits.{Classes, is_of, has_type, have_types, HeapFits, ObjectFits, ContentFits, IsThere, result_awaited, StackFits}
 use Rattle.kilim_type_spec.specs.Typed.{has_code}
 use Rattle.kilim_type_sound.specs.Sound.{GoesOn, EffectFits}
-use Rattle.kilim_type_sound.specs.Facts.{Ordered, Facts, Selected, TextKind, IsLength, IsEquals, IsCharAt, TextMethod}
+use Rattle.kilim_type_sound.specs.Facts.{Ordered, Facts, OfMessage, Selected, TextKind, IsLength, IsEquals, IsCharAt, TextMethod}
 use Rattle.kilim_type_laws.specs.members.Chosen.{has_instances}
-use Rattle.kilim_type_sound.proofs.Basics.{taken, of_through, class_of, is_reference, Held, Taken, PlainOperands}
+use Rattle.kilim_type_sound.proofs.Basics.{object_assigned, taken, of_through, class_of, is_reference, Held, Taken, PlainOperands}
 use Rattle.kilim_type_sound.proofs.Steps.{same_typed, vtype_set}
 use Rattle.kilim_type_sound.proofs.Words.{int_is, value_took, receiver_is, class_is}
-use Rattle.kilim_type_sound.proofs.Rows.{Before, by_takes, kept}
+use Rattle.kilim_type_sound.proofs.Holders.{content_there, holder_is}
+use Rattle.kilim_type_sound.proofs.Values.{value_typed}
+use Rattle.kilim_type_sound.proofs.Rows.{Before, by_takes, going, kept}
 
 base_no_top : (ty : Ty) (b : Base) → is_top (base_vtype ty b) ≡ false
 base_no_top ty base.Long = refl
@@ -229,9 +232,27 @@ module _ (p : Program) (facts : Facts p) (m : Method) (of : Classes) (h : Object
 
     -- ---- calls on an object
 
-    called_with : (named : Method) (id : MethodId) (s : Selected p named id) (v : Value) (args rest : List Value) (ts : List VType) → v ≢ value.Null → is_of p (class_of p of v) (class_type s.method.owner.0) ≡ true → is_reference v ≡ true →
+    no_arguments : (tys : List Ty) (args : List Value) → tys ≡ [] → have_types p m of (map vtype tys) args ≡ true → args ≡ []
+    no_arguments tys args none e = by args (subst (λ (ys : List Ty). have_types p m of (map vtype ys) args ≡ true) none e)
+      where
+        by : (args : List Value) → have_types p m of [] args ≡ true → args ≡ []
+        by [] e = refl
+        by (v ∷ vs) e = absurd (cc)
+
+    -- the message of an exception is a value of its field's type
+    message_given : (callee : Method) (x : OfMessage p callee) (v : Value) → has_type p m of (Object (class_type callee.owner.0)) v ≡ true → IsThere h v → (ts : List VType) (rest : List Value) → have_types p m of ts rest ≡ true →
+        At i (vtype x.field.ty ∷ ts) (gives_message (v ∷ []) next ls rest h)
+    message_given callee x v d t ts rest u =
+        holder_is p facts m of h heap (At i (vtype x.field.ty ∷ ts)) (λ c. tt) message_field x.field x.there x.instance v (object_assigned p facts.order m of (class_type callee.owner.0) (class_type x.field.owner.0) v x.above d) t
+        (λ n o. with_some (field_in o.fields message_field) (λ w. Goes next ls (w ∷ rest) h)) (λ n o there own.
+        let y = content_there p of message_field x.field x.there o.class.dims o.class.base o (heap.objects n o there) own in
+        subst (λ (z : Option Value). At i (vtype x.field.ty ∷ ts) (with_some z (λ w. Goes next ls (w ∷ rest) h))) (sym y.1)
+        (going p facts.order m of h heap live at next f g ls vs i b w next on (vtype x.field.ty ∷ ts) (y.0 ∷ rest)
+        (and_from (has_type p m of (vtype x.field.ty) y.0) (have_types p m of ts rest) (value_typed p facts.order of heap.proper m x.field.ty y.0 y.2) u)))
+
+    called_with : (named : Method) (id : MethodId) (s : Selected p named id) (v : Value) (args rest : List Value) (ts : List VType) → v ≢ value.Null → is_of p (class_of p of v) (class_type s.method.owner.0) ≡ true → is_reference v ≡ true → IsThere h v →
         have_types p m of (map vtype named.params) args ≡ true → have_types p m of ts rest ≡ true → At i (result_types named.result ++ ts) (calls_method (method_at p id) id (v ∷ args) next ls rest h)
-    called_with named id s v args rest ts nn is ref e t = subst (λ (o : Option Method). At i (result_types named.result ++ ts) (calls_method o id (v ∷ args) next ls rest h)) (sym s.there) (by s.method.built_in refl s.code)
+    called_with named id s v args rest ts nn is ref vt e t = subst (λ (o : Option Method). At i (result_types named.result ++ ts) (calls_method o id (v ∷ args) next ls rest h)) (sym s.there) (by s.method.built_in refl s.code)
       where
         of_class : (v : Value) → v ≢ value.Null → is_of p (class_of p of v) (class_type s.method.owner.0) ≡ true → is_reference v ≡ true → has_type p s.method of (class_vtype s.method.owner) v ≡ true
         of_class (value.Int x) nn is ref = absurd (cc)
@@ -242,6 +263,9 @@ module _ (p : Program) (facts : Facts p) (m : Method) (of : Classes) (h : Object
         of_class (value.Box x) nn is ref = is
         of_class value.Fiber nn is ref = is
 
+        is_object : (v : Value) → v ≢ value.Null → is_of p (class_of p of v) (class_type s.method.owner.0) ≡ true → is_reference v ≡ true → has_type p m of (Object (class_type s.method.owner.0)) v ≡ true
+        is_object v nn is ref = same_typed p m s.method of (class_vtype s.method.owner) v refl ∙ of_class v nn is ref
+
         typed : have_types p s.method of (class_vtype s.method.owner ∷ map vtype s.method.params) (v ∷ args) ≡ true
         typed = and_from (has_type p s.method of (class_vtype s.method.owner) v) (have_types p s.method of (map vtype s.method.params) args) (of_class v nn is ref)
             (subst (λ (tys : List Ty). have_types p s.method of (map vtype tys) args ≡ true) (sym s.params) (same_arguments p m s.method of named.params args e))
@@ -249,8 +273,27 @@ module _ (p : Program) (facts : Facts p) (m : Method) (of : Classes) (h : Object
         goes : GoesOn p m of live (edges i next) (record f { stack = result_types named.result ++ ts }) (result_awaited s.method.result) next ls rest h
         goes = subst (λ (r : Option Ty). GoesOn p m of live (edges i next) (record f { stack = result_types named.result ++ ts }) (result_awaited r) next ls rest h) (sym s.result) (awaits named.result ts rest t)
 
-        by : (z : Bool) → s.method.built_in ≡ z → (s.method.built_in ≡ true) ⊎ ((s.method.built_in ≡ false) × (has_code s.method ≡ true)) → At i (result_types named.result ++ ts) (cond z (Asks id (v ∷ args) next ls rest h) (Calls id (v ∷ args) next ls rest h))
-        by true z c = record { callee = s.method; there = s.there; built_in = z; arguments = subst (λ (y : Bool). have_types p s.method of (cond y [] (class_vtype s.method.owner ∷ []) ++ map vtype s.method.params) (v ∷ args) ≡ true) (sym s.instance) typed; goes = goes; behind = refl; same = refl }
+        asks : s.method.built_in ≡ true → At i (result_types named.result ++ ts) (Asks id (v ∷ args) next ls rest h)
+        asks z = record { callee = s.method; there = s.there; built_in = z; arguments = subst (λ (y : Bool). have_types p s.method of (cond y [] (class_vtype s.method.owner ∷ []) ++ map vtype s.method.params) (v ∷ args) ≡ true) (sym s.instance) typed; goes = goes; behind = refl; same = refl }
+
+        no_constructor : is_message_constructor s.method ≡ true → ⊥
+        no_constructor e = true≢false (sym (and_parts (is_constructor s.method) _ (and_parts s.method.built_in _ e).1).0 ∙ s.plain)
+
+        gives : is_get_message s.method ≡ true → At i (result_types named.result ++ ts) (gives_message (v ∷ args) next ls rest h)
+        gives g1 =
+            let x = facts.gives_messages id s.method s.there g1 in
+            subst (λ (r : Option Ty). At i (result_types r ++ ts) (gives_message (v ∷ args) next ls rest h)) (sym x.2 ∙ s.result)
+            (subst (λ (xs : List Value). At i (vtype x.0.field.ty ∷ ts) (gives_message (v ∷ xs) next ls rest h)) (sym (no_arguments named.params args (sym s.params ∙ x.1) e))
+            (message_given s.method x.0 v (is_object v nn is ref) vt ts rest t))
+
+        by_kind : (k r : Bool) → is_message_constructor s.method ≡ k → is_get_message s.method ≡ r → s.method.built_in ≡ true →
+            At i (result_types named.result ++ ts) (cond k (keeps_message (v ∷ args) next ls rest h) (cond r (gives_message (v ∷ args) next ls rest h) (Asks id (v ∷ args) next ls rest h)))
+        by_kind true r k e z = absurd (no_constructor k)
+        by_kind false true k e z = gives e
+        by_kind false false k e z = asks z
+
+        by : (z : Bool) → s.method.built_in ≡ z → (s.method.built_in ≡ true) ⊎ ((s.method.built_in ≡ false) × (has_code s.method ≡ true)) → At i (result_types named.result ++ ts) (cond z (calls_built_in s.method id (v ∷ args) next ls rest h) (Calls id (v ∷ args) next ls rest h))
+        by true z c = by_kind (is_message_constructor s.method) (is_get_message s.method) refl refl z
         by false z (inl c) = absurd (cc)
         by false z (inr c) = record {
           callee = s.method;
@@ -319,7 +362,7 @@ module _ (p : Program) (facts : Facts p) (m : Method) (of : Classes) (h : Object
             let c = z.2.0 in
             let s = facts.selects id callee there inst plain c z.2.3 z.2.2 in
             subst (λ (o : Option Ty). At i (result_types callee.result ++ ts) (calls_on p callee id (reverse xs) next ls rest h v o)) (sym z.2.1)
-            (called_with callee (chosen p callee id c) s.0 v (reverse xs) rest ts z.0 (subst (λ (o : Option Ty). is_of p o (class_type s.0.method.owner.0) ≡ true) (sym z.2.1) s.1) z.1 e q)
+            (called_with callee (chosen p callee id c) s.0 v (reverse xs) rest ts z.0 (subst (λ (o : Option Ty). is_of p o (class_type s.0.method.owner.0) ≡ true) (sym z.2.1) s.1) z.1 vt e q)
 
     -- invokespecial of no constructor: the receiver is of the own class too
     pub special_calls : (id : MethodId) (callee : Method) → method_at p id ≡ Some callee → callee.is_static ≡ false → is_constructor callee ≡ false → may_name m callee.is_private callee.owner ≡ true → special_fits p m id callee ≡ true → (also : List Further) →
@@ -330,9 +373,9 @@ module _ (p : Program) (facts : Facts p) (m : Method) (of : Classes) (h : Object
         let s = facts.specials m id callee there inst plain named fits in
         by_takes p facts.order m of h heap live at next f g ls vs i b _ (result_types callee.result) also (plain_with callee) r _ (λ a ts k.
         args_two p facts.order m of h heap (At i (result_types callee.result ++ ts)) (λ c. tt) callee (Is (class_vtype callee.owner) ∷ []) (Is (class_vtype m.owner) ∷ []) ts _ vs k (taken p facts.order m of h (map (λ o. Is Top) (arguments callee) ++ (Is (class_vtype m.owner) ∷ [])) f.stack vs (plain_tops (arguments callee)) own b.stack b.there) _ (λ xs below e t u.
-        both ts _ below t u (λ receiver rest. calls_method (method_at p (special p m callee id)) (special p m callee id) (receiver ∷ reverse xs) next ls rest h) (λ v d c rest q.
+        both ts _ below t u (λ receiver rest. calls_method (method_at p (special p m callee id)) (special p m callee id) (receiver ∷ reverse xs) next ls rest h) (λ v d c vt rest q.
         receiver_is p facts.order m of h heap (At i (result_types callee.result ++ ts)) (λ c. tt) v (reference_of v d) _ (λ nn.
-        called_with callee (special p m callee id) s.0 v (reverse xs) rest ts nn (through v nn c _ s.1) (reference_of v d) e q))))
+        called_with callee (special p m callee id) s.0 v (reverse xs) rest ts nn (through v nn c _ s.1) (reference_of v d) vt e q))))
       where
         plain_tops : (os : List Operand) → PlainOperands p facts.order m of (map (λ o. Is Top) os ++ (Is (class_vtype m.owner) ∷ []))
         plain_tops [] = (tt, tt)
@@ -353,10 +396,10 @@ module _ (p : Program) (facts : Facts p) (m : Method) (of : Classes) (h : Object
         through value.Fiber nn d up a = of_through p facts.order m of _ _ _ d a
 
         both : (ts us : List VType) (below : List Value) → Taken p facts.order m of h (Is (class_vtype callee.owner) ∷ []) ts below → Taken p facts.order m of h (Is (class_vtype m.owner) ∷ []) us below → (go : Value → List Value → Effect) →
-            ((v : Value) → has_type p m of (Object (class_type callee.owner.0)) v ≡ true → has_type p m of (Object (class_type m.owner.0)) v ≡ true → (rest : List Value) → have_types p m of ts rest ≡ true → At i (result_types callee.result ++ ts) (as_receiver v (λ r. go r rest))) →
+            ((v : Value) → has_type p m of (Object (class_type callee.owner.0)) v ≡ true → has_type p m of (Object (class_type m.owner.0)) v ≡ true → IsThere h v → (rest : List Value) → have_types p m of ts rest ≡ true → At i (result_types callee.result ++ ts) (as_receiver v (λ r. go r rest))) →
             At i (result_types callee.result ++ ts) (on_receiver below go)
         both ts us [] t u go k = absurd t
-        both ts us (v ∷ rest) t u go k = k v t.0 u.0 rest t.1.1
+        both ts us (v ∷ rest) t u go k = k v t.0 u.0 t.1.0 rest t.1.1
 
     -- ---- methods of strings
 

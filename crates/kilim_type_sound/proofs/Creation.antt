@@ -18,28 +18,34 @@ use Rattle.kilim_program.specs.declared.verified.VType.{VType}
 use Rattle.kilim_program.specs.declared.verified.VType.TheVariants.{Top, Int, Long, Null, UninitThis, Uninit, Object}
 use Rattle.kilim_program.specs.Program.{Program}
 use Rattle.kilim_run_state.specs.Machine.{Objects}
-use Rattle.kilim_program.specs.BuiltIn.{class_type}
+use Rattle.std.specs.FinMap.{get, insert}
+use Rattle.kilim_run_state.specs.declared.value.Object.{Object as HeapObject}
+use Rattle.kilim_program.specs.BuiltIn.{class_type, message_field}
 use Rattle.kilim_program.specs.Names.{class_at, method_at, field_of, fields_of, line_of, class_name}
 use Rattle.kilim_program.specs.Members.{is_instance_field, is_concrete}
 use Rattle.kilim_program.specs.Kinds.{is_value_class}
 use Rattle.kilim_program.specs.Same.{is_constructor}
 use Rattle.kilim_program.specs.Fits.{is_named, fits_type}
-use Rattle.kilim_run_machine.specs.Effect.{Asks, Effect, Goes, Makes, Opens, Calls, on_values, on_receiver}
+use Rattle.kilim_run_machine.specs.Effect.{Asks, Effect, Goes, Makes, Opens, Calls, on_values, on_receiver, with_some}
 use Rattle.kilim_program.specs.Members.{named_type}
-use Rattle.kilim_run_machine.specs.Does.{is_mailbox}
+use Rattle.kilim_run_machine.specs.Does.{is_mailbox, keeps_message, with_field}
+use Rattle.kilim_run_state.specs.Shapes.{field_in}
 use Rattle.kilim_run_state.specs.Objects.{new_object, first_field, first_value, first_value_of}
-use Rattle.kilim_type_spec.specs.Step.{Types, Operand, Is, Further, further, needs, rule, Makes as MakesRow, Constructs, by_row, arguments, result_types, vtype, class_vtype, is_same, one_replaced, replaced, peek, made_at, is_class, superclass_at, constructed, may_make, has_room, room_for, has_operands, all_meet}
+use Rattle.kilim_type_spec.specs.Step.{Types, Operand, Is, Further, further, needs, rule, Makes as MakesRow, Constructs, by_row, arguments, result_types, vtype, class_vtype, is_same, one_replaced, replaced, peek, is_top, made_at, is_class, superclass_at, constructed, may_make, has_room, room_for, has_operands, all_meet}
 use Rattle.kilim_type_spec.specs.Typed.{writes, edges, Among}
-use Rattle.kilim_type_sound.specs.Fits.{Classes, is_of, is_made, refers, has_type, have_types, Holds, LocalsFit, HeapFits, FieldFits, FieldsFit, has_objects, ObjectFits, Nothing, AReference, result_awaited, StackFits, is_value_of}
+use Rattle.kilim_type_sound.specs.Fits.{AreThere, Classes, IsThere, is_of, is_made, refers, has_type, have_types, Holds, LocalsFit, HeapFits, FieldFits, FieldsFit, has_objects, ObjectFits, Nothing, AReference, result_awaited, StackFits, is_value_of}
 use Rattle.kilim_program.specs.declared.ty.Base.{Base}
 use Rattle.kilim_program.specs.declared.ty.Base.TheVariants as base
 use Rattle.kilim_program.specs.Fits.{is_reference_base}
 use Rattle.kilim_type_sound.specs.Sound.{GoesOn, EffectFits}
-use Rattle.kilim_type_sound.specs.Facts.{Facts}
-use Rattle.kilim_type_sound.proofs.Basics.{passed, ok_is, Furthers, furthers, of_through, is_reference, taken, Taken, PlainOperands}
+use Rattle.kilim_type_sound.specs.Facts.{Facts, OfMessage}
+use Rattle.kilim_type_sound.proofs.Basics.{Held, passed, object_assigned, ok_is, Furthers, furthers, of_through, is_reference, taken, Taken, PlainOperands}
 use Rattle.kilim_type_sound.proofs.Slots.{no_slot}
 use Rattle.kilim_type_sound.proofs.Words.{receiver_is}
-use Rattle.kilim_type_sound.proofs.Calls.{args_took, same_arguments, arguments_are, dims_itself, vtype_no_top}
+use Rattle.kilim_type_sound.proofs.Calls.{args_took, held_has, same_arguments, arguments_are, dims_itself, vtype_no_top}
+use Rattle.kilim_type_sound.proofs.Heap.{value_of_typed}
+use Rattle.kilim_type_sound.proofs.Holders.{content_kept, content_there, holder_is}
+use Rattle.kilim_type_sound.proofs.Values.{written}
 use Rattle.kilim_type_sound.proofs.Rows.{Before, kept}
 
 same_top : (old : VType) → is_same old Top ≡ false
@@ -382,6 +388,82 @@ module _ (p : Program) (facts : Facts p) (m : Method) (of : Classes) (h : Object
           behind = refl;
           same = refl;
         }))
+
+    -- ---- the constructor of an exception that is given the message
+
+    old_is_set : (t : VType) → is_same t t ≡ true → is_top t ≡ false
+    old_is_set UninitThis e = refl
+    old_is_set (Uninit q) e = refl
+    old_is_set Top e = absurd (cc)
+    old_is_set Int e = refl
+    old_is_set Long e = refl
+    old_is_set Null e = refl
+    old_is_set (Object ty) e = refl
+
+    held_of : (t : VType) (v : Value) → has_type p m of t v ≡ true → Held p facts.order m of (Is t) v
+    held_of Top v e = tt
+    held_of UninitThis v e = e
+    held_of (Uninit q) v e = e
+    held_of Int v e = e
+    held_of Long v e = e
+    held_of Null v e = e
+    held_of (Object ty) v e = e
+
+    -- one operand more
+    one_more : (os : List Operand) (t : VType) (ts : List VType) (ws : List Value) → Taken p facts.order m of h os (t ∷ ts) ws → AreThere h ws → Taken p facts.order m of h (os ++ (Is t ∷ [])) ts ws
+    one_more [] t ts [] k there = absurd (cc)
+    one_more [] t ts (v ∷ ws) k there = let es = and_parts (has_type p m of t v) (have_types p m of ts ws) k in (held_of t v es.0, (there.0, es.1))
+    one_more (o ∷ os) t ts [] k there = absurd k
+    one_more (o ∷ os) t ts (v ∷ ws) k there = (k.0, (k.1.0, one_more os t ts ws k.1.1 there.1))
+
+    on_object_now : (callee : Method) (gives : List VType) (after : List Further) (ts : List VType) (x : Fitting callee gives after ts) (below : List Value) → Taken p facts.order m of h (Is x.old ∷ []) x.s below → (go : Value → List Value → Effect) →
+        ((v : Value) (rest : List Value) → has_type p callee of UninitThis v ≡ true → IsThere h v → have_types p m of x.s rest ≡ true → After i (go v rest)) → After i (on_receiver below go)
+    on_object_now callee gives after ts x [] k go each = absurd k
+    on_object_now callee gives after ts x (v ∷ rest) k go each =
+        let e = held_has p facts.order m of h heap (λ _. Unit {0}) (λ c. tt) x.old v (old_is_set x.old x.same) k.0 in
+        let t = this_of p m of callee x.old v x.same x.class e in
+        receiver_is p facts.order m of h heap (After i) (λ c. tt) v t.1 (λ r. go r rest) (λ nn. each v rest t.0 k.1.0 k.1.1)
+
+    -- a value of the type of the message may be kept there
+    is_kept : (callee : Method) (x : OfMessage p callee) (v : Value) → has_type p m of (vtype x.field.ty) v ≡ true → is_value_of p of x.field.ty v ≡ true
+    is_kept callee x v = subst (λ (ty : Ty). has_type p m of (vtype ty) v ≡ true → is_value_of p of ty v ≡ true) (sym x.typed) (λ e. value_of_typed p facts.order m of h heap live at next f g ls vs i b w on (class_type x.text.0) v refl e)
+
+    pub constructor_keeps : (id : MethodId) (callee : Method) → method_at p id ≡ Some callee → callee.built_in ≡ true → is_constructor callee ≡ true → (x : OfMessage p callee) → callee.params ≡ x.field.ty ∷ [] → (before after : List Further) →
+        by_row p m at (Constructs (arguments callee) (result_types callee.result) callee.owner before after) f ≡ Ok g →
+        After i (on_values (length callee.params) vs (λ args below. on_receiver below (λ receiver rest. keeps_message (receiver ∷ reverse args) next ls rest h)))
+    constructor_keeps id callee there own con message one before after r =
+        let x = construct callee before after r in
+        let t = taken p facts.order m of h (arguments callee) f.stack vs (subst (λ (os : List Operand). PlainOperands p facts.order m of os) (sym (arguments_are callee)) (plain_all (reverse (map vtype callee.params)))) x.meet b.stack b.there in
+        args_took p facts.order m of h heap (After i) (λ c. tt) callee (Is x.fit.old ∷ []) x.fit.s vs
+        (one_more (arguments callee) x.fit.old x.fit.s vs (subst (λ (us : List VType). Taken p facts.order m of h (arguments callee) us vs) x.fit.is t) b.there)
+        (λ args below. on_receiver below (λ receiver rest. keeps_message (receiver ∷ reverse args) next ls rest h))
+        (λ xs below e q. on_object_now callee (result_types callee.result) after _ x.fit below q (λ receiver rest. keeps_message (receiver ∷ reverse xs) next ls rest h) (λ v rest d vt s.
+        keeps x v rest d vt (goes x rest s) (reverse xs) (subst (λ (tys : List Ty). have_types p m of (map vtype tys) (reverse xs) ≡ true) one e)))
+      where
+        none : callee.result ≡ None
+        none = (facts.constructors id callee there own con).0
+
+        goes : (x : Constructed callee before after) (rest : List Value) → have_types p m of x.fit.s rest ≡ true → GoesOn p m of live (edges i next) g Nothing next ls rest h
+        goes x rest s = subst (λ (z : Types). GoesOn p m of live (edges i next) z Nothing next ls rest h) x.fit.after_is
+            (subst (λ (o : Option Ty). GoesOn p m of live (edges i next) (made_types x.fit.old x.fit.new x.fit.u (result_types callee.result) x.fit.s) (result_awaited o) next ls rest h) none
+            (constructed_goes x.fit.old x.fit.new x.fit.u x.fit.s rest callee.result x.fit.becomes s))
+
+        written_goes : (rest : List Value) → GoesOn p m of live (edges i next) g Nothing next ls rest h → (n : ℕ) (o q : HeapObject) → get h n ≡ Some o → q.class ≡ o.class → ObjectFits p of q → After i (Goes next ls rest (insert h n q))
+        written_goes rest k n o q at_n same fit = record { among = k.among; locals = k.locals; stack = k.stack; heap = written p of h heap n o q at_n same fit }
+
+        keeps : (x : Constructed callee before after) (v : Value) (rest : List Value) → has_type p callee of UninitThis v ≡ true → IsThere h v → GoesOn p m of live (edges i next) g Nothing next ls rest h →
+            (args : List Value) → have_types p m of (vtype message.field.ty ∷ []) args ≡ true → After i (keeps_message (v ∷ args) next ls rest h)
+        keeps x v rest d vt k [] e = absurd (cc)
+        keeps x v rest d vt k (a ∷ u ∷ us) e = absurd (let z = (and_parts (has_type p m of (vtype message.field.ty) a) false e).1 in cc)
+        keeps x v rest d vt k (a ∷ []) e =
+            let kept = is_kept callee message a (and_parts (has_type p m of (vtype message.field.ty) a) true e).0 in
+            holder_is p facts callee of h heap (After i) (λ c. tt) message_field message.field message.there message.instance v
+            (object_assigned p facts.order callee of (class_type callee.owner.0) (class_type message.field.owner.0) v message.above (this_is_object callee v d)) vt
+            (λ n o. with_some (field_in o.fields message_field) (λ old. Goes next ls rest (insert h n (record o { fields = with_field o.fields message_field a })))) (λ n o at_n has.
+            let y = content_there p of message_field message.field message.there o.class.dims o.class.base o (heap.objects n o at_n) has in
+            subst (λ (z : Option Value). After i (with_some z (λ old. Goes next ls rest (insert h n (record o { fields = with_field o.fields message_field a }))))) (sym y.1)
+            (written_goes rest k n o (record o { fields = with_field o.fields message_field a }) at_n refl
+            (content_kept p of message_field message.field message.there a kept o.class.dims o.class.base o (heap.objects n o at_n) has)))
 
     -- ---- new objects
 

@@ -1,19 +1,16 @@
 -- Fields fit.
-use Rattle.std.proofs.Common.{◌≡◌, inl, inr, ℕ, zero, suc, ℤ, Bool, true, false, true≢false, cond, eqb, List, [], ◌∷◌, Option, Some, None, Ok, refl, sym, ap, subst, ◌∙◌, arith}
-use Rattle.std.specs.Prelude.{◌&&◌, ◌||◌, not, slice_get, codes}
-use Rattle.std.specs.FinMap.{get, insert}
-use Rattle.std.specs.List.{list_any}
+use Rattle.std.proofs.Common.{◌≡◌, inl, inr, ℕ, zero, suc, ℤ, Bool, true, false, cond, eqb, List, [], ◌∷◌, Option, Some, None, Ok, refl, sym, subst, arith}
+use Rattle.std.specs.Prelude.{◌&&◌, not, codes}
+use Rattle.std.specs.FinMap.{insert}
 use Rattle.std.proofs.lemmas.Bool.{and_parts, and_from, eqb-true, ne_eqb}
 use Rattle.kilim_program.specs.declared.class.Field.{Field}
 use Rattle.kilim_program.specs.declared.class.Method.{Method}
 use Rattle.kilim_program.specs.declared.instr.Instr.{Instr}
 use Rattle.kilim_program.specs.declared.instr.Instr.TheVariants as instr
-use Rattle.kilim_program.specs.declared.names.ClassId.{ClassId}
 use Rattle.kilim_program.specs.declared.names.FieldId.{FieldId}
 use Rattle.kilim_program.specs.declared.ty.Base.{Base}
 use Rattle.kilim_program.specs.declared.ty.Base.TheVariants as base
 use Rattle.kilim_program.specs.declared.ty.Ty.{Ty}
-use Rattle.kilim_run_state.specs.declared.value.Object.{Object as HeapObject}
 use Rattle.kilim_program.specs.declared.value.Value.{Value}
 use Rattle.kilim_program.specs.declared.value.Value.TheVariants as value
 use Rattle.kilim_program.specs.declared.verified.VType.{VType}
@@ -22,53 +19,25 @@ use Rattle.kilim_program.specs.Program.{Program}
 use Rattle.kilim_run_state.specs.Machine.{Objects}
 use Rattle.kilim_program.specs.BuiltIn.{class_type}
 use Rattle.kilim_program.specs.Keeps.{constant_fits, is_int_like, is_long as is_long_ty, is_string_base}
-use Rattle.kilim_program.specs.Names.{field_of, class_named}
-use Rattle.kilim_program.specs.Members.{object_fields}
+use Rattle.kilim_program.specs.Names.{field_of}
 use Rattle.kilim_program.specs.Same.{is_constructor}
-use Rattle.kilim_run_machine.specs.Effect.{Effect, Goes, Raises, with_some, on_value, on_object, as_object, on_constant}
-use Rattle.kilim_program.specs.Members.{named_type, named_class}
+use Rattle.kilim_run_machine.specs.Effect.{Effect, Goes, with_some, on_value, on_object, as_object, on_constant}
+use Rattle.kilim_program.specs.Members.{named_type}
 use Rattle.kilim_run_machine.specs.Does.{with_field, narrowed_to, narrowed_int}
 use Rattle.kilim_run_state.specs.Shapes.{field_in}
 use Rattle.kilim_type_spec.specs.Step.{Types, Is, Own, needs, by_row, field_row, holder, missing, may_name, vtype, dims_vtype, class_vtype}
 use Rattle.kilim_type_spec.specs.Typed.{writes, edges, Among}
-use Rattle.kilim_type_sound.specs.Fits.{Classes, is_of, has_type, have_types, int_fits, HeapFits, ContentFits, FieldFits, FieldsFit, IsThere, is_value_of}
+use Rattle.kilim_type_sound.specs.Fits.{Classes, is_of, has_type, have_types, int_fits, HeapFits, is_value_of}
 use Rattle.kilim_program.specs.Lengths.{is_reference_type}
 use Rattle.kilim_type_sound.specs.Sound.{EffectFits}
-use Rattle.kilim_type_sound.specs.Facts.{Facts, OwnsField, Narrows}
-use Rattle.kilim_type_laws.specs.members.Chosen.{is_value_name}
+use Rattle.kilim_type_sound.specs.Facts.{Facts, Narrows}
 use Rattle.kilim_type_sound.proofs.Basics.{takes_inverse, PlainOperand, Held}
 use Rattle.kilim_type_sound.proofs.Words.{value_took}
 use Rattle.kilim_type_sound.proofs.Values.{value_typed}
 use Rattle.kilim_type_sound.proofs.Calls.{vtype_no_top, held_has}
 use Rattle.kilim_type_sound.proofs.Heap.{value_of_typed, writing}
+use Rattle.kilim_type_sound.proofs.Holders.{content_kept, content_there, holder_is}
 use Rattle.kilim_type_sound.proofs.Rows.{Before, by_takes, going}
-
-field_there : (p : Program) (of : Classes) (x : FieldId) (field : Field) → field_of p x ≡ Some field → (fs : List FieldId) (es : List (FieldId × Value)) → FieldsFit p of fs es → list_any (λ (y : FieldId). eqb y.0 x.0) fs ≡ true →
-    (v : Value) × (field_in es x ≡ Some v) × (is_value_of p of field.ty v ≡ true)
-field_there p of x field e [] es f a = absurd (cc)
-field_there p of x field e (y ∷ fs) [] f a = absurd f
-field_there p of x field e (y ∷ fs) (d ∷ es) f a = by (eqb y.0 x.0) refl a (field_there p of x field e fs es f.2)
-  where
-    by : (z : Bool) → eqb y.0 x.0 ≡ z → (z || list_any (λ (y : FieldId). eqb y.0 x.0) fs) ≡ true → (list_any (λ (y : FieldId). eqb y.0 x.0) fs ≡ true → (v : Value) × (field_in es x ≡ Some v) × (is_value_of p of field.ty v ≡ true)) →
-        (v : Value) × (field_in (d ∷ es) x ≡ Some v) × (is_value_of p of field.ty v ≡ true)
-    by true z a again = (
-      d.1,
-      subst (λ (q : FieldId). cond (eqb q.0 x.0) (Some d.1) (field_in es x) ≡ Some d.1) (sym f.0) (ap (λ (b : Bool). cond b (Some d.1) (field_in es x)) z),
-      subst (λ (o : Option Field). FieldFits p of o d.1) (ap (λ (n : ℕ). slice_get p.fields n) (eqb-true y.0 x.0 z) ∙ e) f.1,
-    )
-    by false z a again =
-        let r = again a in
-        (r.0, subst (λ (q : FieldId). cond (eqb q.0 x.0) (Some d.1) (field_in es x) ≡ Some r.0) (sym f.0) (ap (λ (b : Bool). cond b (Some d.1) (field_in es x)) z ∙ r.1), r.2)
-
-field_kept : (p : Program) (of : Classes) (x : FieldId) (field : Field) → field_of p x ≡ Some field → (v : Value) → is_value_of p of field.ty v ≡ true → (fs : List FieldId) (es : List (FieldId × Value)) → FieldsFit p of fs es → FieldsFit p of fs (with_field es x v)
-field_kept p of x field e v t [] [] f = tt
-field_kept p of x field e v t [] (d ∷ es) f = absurd f
-field_kept p of x field e v t (y ∷ fs) [] f = absurd f
-field_kept p of x field e v t (y ∷ fs) (d ∷ es) f = by (eqb d.0.0 x.0) refl (field_kept p of x field e v t fs es f.2)
-  where
-    by : (z : Bool) → eqb d.0.0 x.0 ≡ z → FieldsFit p of fs (with_field es x v) → FieldsFit p of (y ∷ fs) (cond z ((d.0, v) ∷ es) (d ∷ with_field es x v))
-    by true z again = (f.0, subst (λ (o : Option Field). FieldFits p of o v) (sym (ap (λ (n : ℕ). slice_get p.fields n) (sym (ap (λ (q : FieldId). q.0) f.0) ∙ eqb-true d.0.0 x.0 z) ∙ e)) t, f.2)
-    by false z again = (f.0, f.1, again)
 
 module _ (p : Program) (facts : Facts p) (narrows : Narrows) (m : Method) (of : Classes) (h : Objects) (heap : HeapFits p of h) (live : ℕ → ℕ → Bool) (at next : ℕ) (f g : Types) (ls vs : List Value) where
   abbrev After : Instr → Effect → Type 0
@@ -79,35 +48,6 @@ module _ (p : Program) (facts : Facts p) (narrows : Narrows) (m : Method) (of : 
 
   pub missing_is : by_row p m at missing f ≡ Ok g → ⊥
   missing_is r = let z = (takes_inverse p m at [] [] (needs 8 false ∷ []) f g r).also_hold.0 in absurd (cc)
-
-  content_there : (x : FieldId) (field : Field) → field_of p x ≡ Some field → (d : ℕ) (b : Base) (o : HeapObject) → ContentFits p of d b o → OwnsField p d b x → (v : Value) × (field_in o.fields x ≡ Some v) × (is_value_of p of field.ty v ≡ true)
-  content_there x field e zero (base.Class c) o k w = field_there p of x field e (object_fields p c) o.fields k.1 w
-  content_there x field e (suc d) b o k w = absurd w
-  content_there x field e zero b o k w = absurd w
-
-  content_kept : (x : FieldId) (field : Field) → field_of p x ≡ Some field → (v : Value) → is_value_of p of field.ty v ≡ true → (d : ℕ) (b : Base) (o : HeapObject) → ContentFits p of d b o → OwnsField p d b x → ContentFits p of d b (record o { fields = with_field o.fields x v })
-  content_kept x field e v t zero (base.Class c) o k w = (k.0, field_kept p of x field e v t (object_fields p c) o.fields k.1, k.2)
-  content_kept x field e v t (suc d) b o k w = absurd w
-  content_kept x field e v t zero b o k w = absurd w
-
-  -- the object of a field: null, or one that has it
-  no_value : (x : FieldId) (field : Field) → field_of p x ≡ Some field → field.is_static ≡ false → (name : List ℕ) → is_value_name name ≡ true → is_of p (named_type p name) (class_type field.owner.0) ≡ true → ⊥
-  no_value x field e s name n k = by (class_named p name) refl k
-    where
-      by : (o : Option ClassId) → class_named p name ≡ o → is_of p (named_class o) (class_type field.owner.0) ≡ true → ⊥
-      by None q k = absurd (true≢false (sym k))
-      by (Some c) q k = absurd (let a = facts.fields x field e s 0 (base.Class c) k in let b = subst (λ (fs : List FieldId). list_any (λ (y : FieldId). eqb y.0 x.0) fs ≡ true) (facts.no_fields name c n q) a in true≢false (sym b))
-
-  holder_is : (S : Effect → Type 0) → ((c : _) → S (Raises c)) → (x : FieldId) (field : Field) → field_of p x ≡ Some field → field.is_static ≡ false → (v : Value) → has_type p m of (Object (class_type field.owner.0)) v ≡ true → IsThere h v → (go : ℕ → HeapObject → Effect) →
-      ((n : ℕ) (o : HeapObject) → get h n ≡ Some o → OwnsField p o.class.dims o.class.base x → S (go n o)) → S (as_object v h go)
-  holder_is S ended x field e s (value.Int n) k t go c = absurd (cc)
-  holder_is S ended x field e s (value.Long n) k t go c = absurd (cc)
-  holder_is S ended x field e s value.Null k t go c = ended _
-  holder_is S ended x field e s (value.Ref n) k t go c = subst (λ (z : Option HeapObject). S (with_some z (go n))) (sym t.1)
-      (c n t.0 t.1 (facts.fields x field e s t.0.class.dims t.0.class.base (subst (λ (o : Option Ty). is_of p o (class_type field.owner.0) ≡ true) (heap.classes n t.0 t.1) k)))
-  holder_is S ended x field e s (value.Text u) k t go c = absurd (no_value x field e s (codes "java/lang/String") refl k)
-  holder_is S ended x field e s (value.Box u) k t go c = absurd (no_value x field e s (codes "kilim/Mailbox") refl k)
-  holder_is S ended x field e s value.Fiber k t go c = absurd (no_value x field e s (codes "kilim/Fiber") refl k)
 
   is_not : (b : Bool) → not b ≡ true → b ≡ false
   is_not true e = absurd (cc)
@@ -122,8 +62,8 @@ module _ (p : Program) (facts : Facts p) (narrows : Narrows) (m : Method) (of : 
         let s = is_not field.is_static (and_parts (not field.is_static) (may_name m field.is_private field.owner) (and_parts (not field.is_static && may_name m field.is_private field.owner) true a.0).0).0 in
         by_takes p facts.order m of h heap live at next f g ls vs i b (Is (class_vtype field.owner) ∷ []) (vtype field.ty ∷ []) also (tt, tt) r _ (λ c ts k.
         value_took p facts.order m of h heap (At i (vtype field.ty ∷ ts)) (λ c. tt) (Is (class_vtype field.owner)) [] ts vs k (λ v rest. as_object v h (λ n q. with_some (field_in q.fields x) (λ v. Goes next ls (v ∷ rest) h))) (λ v d t rest u.
-        holder_is (At i (vtype field.ty ∷ ts)) (λ c. tt) x field e s v d t _ (λ n q there own.
-        let y = content_there x field e q.class.dims q.class.base q (heap.objects n q there) own in
+        holder_is p facts m of h heap (At i (vtype field.ty ∷ ts)) (λ c. tt) x field e s v d t _ (λ n q there own.
+        let y = content_there p of x field e q.class.dims q.class.base q (heap.objects n q there) own in
         subst (λ (z : Option Value). At i (vtype field.ty ∷ ts) (with_some z (λ v. Goes next ls (v ∷ rest) h))) (sym y.1)
         (going p facts.order m of h heap live at next f g ls vs i b w next on (vtype field.ty ∷ ts) (y.0 ∷ rest)
         (and_from (has_type p m of (vtype field.ty) y.0) (have_types p m of ts rest) (value_typed p facts.order of heap.proper m field.ty y.0 y.2) u)))))
@@ -176,11 +116,11 @@ module _ (p : Program) (facts : Facts p) (narrows : Narrows) (m : Method) (of : 
         by_takes p facts.order m of h heap live at next f g ls vs i b (Is (vtype field.ty) ∷ holder m field.owner ∷ []) [] also (tt, (plain (is_constructor m && eqb field.owner.0 m.owner.0), tt)) r _ (λ c ts k.
         value_took p facts.order m of h heap (At i ts) (λ c. tt) (Is (vtype field.ty)) (holder m field.owner ∷ []) ts vs k (λ v below. on_object below h (λ n q rest. with_some (field_in q.fields x) (λ (old : Value). Goes next ls rest (insert h n (record q { fields = with_field q.fields x (narrowed_to field.ty v) }))))) (λ v d t below u.
         value_took p facts.order m of h heap (At i ts) (λ c. tt) (holder m field.owner) [] ts below u (λ w2 rest. as_object w2 h (λ n q. with_some (field_in q.fields x) (λ (old : Value). Goes next ls rest (insert h n (record q { fields = with_field q.fields x (narrowed_to field.ty v) }))))) (λ y d2 t2 rest u2.
-        holder_is (At i ts) (λ c. tt) x field e s y (held_holder (is_constructor m && eqb field.owner.0 m.owner.0) refl y d2) t2 (λ n q. with_some (field_in q.fields x) (λ (old : Value). Goes next ls rest (insert h n (record q { fields = with_field q.fields x (narrowed_to field.ty v) })))) (λ n q there own.
-        let y = content_there x field e q.class.dims q.class.base q (heap.objects n q there) own in
+        holder_is p facts m of h heap (At i ts) (λ c. tt) x field e s y (held_holder (is_constructor m && eqb field.owner.0 m.owner.0) refl y d2) t2 (λ n q. with_some (field_in q.fields x) (λ (old : Value). Goes next ls rest (insert h n (record q { fields = with_field q.fields x (narrowed_to field.ty v) })))) (λ n q there own.
+        let y = content_there p of x field e q.class.dims q.class.base q (heap.objects n q there) own in
         subst (λ (z : Option Value). At i ts (with_some z (λ (old : Value). Goes next ls rest (insert h n (record q { fields = with_field q.fields x (narrowed_to field.ty v) }))))) (sym y.1)
         (writing p facts.order m of h heap live at next f g ls vs i b w on ts rest n q (record q { fields = with_field q.fields x (narrowed_to field.ty v) }) u2 there refl
-        (content_kept x field e (narrowed_to field.ty v) (stored_value field.ty.dims field.ty.base v (held_has p facts.order m of h heap (λ _. Unit {0}) (λ c. tt) (vtype field.ty) v (vtype_no_top field.ty) d)) q.class.dims q.class.base q (heap.objects n q there) own))))))
+        (content_kept p of x field e (narrowed_to field.ty v) (stored_value field.ty.dims field.ty.base v (held_has p facts.order m of h heap (λ _. Unit {0}) (λ c. tt) (vtype field.ty) v (vtype_no_top field.ty) d)) q.class.dims q.class.base q (heap.objects n q there) own))))))
       where
         plain : (z : Bool) → PlainOperand p facts.order m of (cond z (Own field.owner) (Is (class_vtype field.owner)))
         plain true = tt

@@ -3,6 +3,7 @@ use Rattle.kilim_type_sound.specs.Law.{AreVerified, AreWanted, FactsHold}
 use Rattle.kilim_type_sound.proofs.Bodies as bodies
 use Rattle.kilim_type_sound.proofs.BuiltInMembers as members
 use Rattle.kilim_type_laws.proofs.members.FromKeeps as keeping
+use Rattle.kilim_type_sound.proofs.Messages as messages
 use Rattle.kilim_type_sound.proofs.OwnFields as owned
 use Rattle.kilim_type_sound.proofs.Selecting as selecting
 use Rattle.kilim_type_laws.proofs.members.Through as lines
@@ -17,6 +18,8 @@ pub facts_hold : FactsHold
 facts_hold p keeps = record {
   texts = texts.texts p keeps;
   takes = members.takes p keeps;
+  keeps_messages = messages.keeps_messages p keeps;
+  gives_messages = messages.gives_messages p keeps;
   fields = owned.fields p keeps;
   no_fields = values.no_fields p keeps;
   constants = keeping.constants p keeps;

@@ -1,6 +1,8 @@
 -- The rows of calls.
 use Rattle.std.proofs.Common.{◌≡◌, ℕ, Bool, true, false, cond, eqb, List, [], ◌∷◌, ◌++◌, map, length, reverse, Option, Some, None, Ok, refl, sym, ap, subst, ◌∙◌}
-use Rattle.std.specs.Prelude.{◌&&◌, ◌||◌, not}
+use Rattle.std.specs.Prelude.{◌&&◌, ◌||◌, not, codes}
+use Rattle.std.specs.Str.{bytes_eq}
+use Rattle.kilim_lemmas.proofs.Texts.{text_is}
 use Rattle.std.specs.FinMap.{insert}
 use Rattle.std.specs.Prelude.{slice_set}
 use Rattle.std.proofs.lemmas.Bool.{and_parts}
@@ -14,8 +16,8 @@ use Rattle.kilim_run_state.specs.Machine.{Objects}
 use Rattle.kilim_program.specs.Names.{class_at, method_at, is_empty}
 use Rattle.kilim_program.specs.Same.{is_constructor}
 use Rattle.kilim_run_machine.specs.Effect.{Effect, Goes, Calls, Asks, with_some, on_values, on_value, on_int, on_object, at_index, on_receiver, as_class}
-use Rattle.kilim_run_machine.specs.Does.{above_of, superclass_of, calls_text, calls_on, calls_method, special}
-use Rattle.kilim_run_machine.specs.Natives.{is_text_method, is_built_in_constructor, is_handed_out}
+use Rattle.kilim_run_machine.specs.Does.{above_of, superclass_of, calls_built_in, calls_text, calls_on, calls_method, gives_message, keeps_message, special}
+use Rattle.kilim_run_machine.specs.Natives.{is_text_method, is_built_in_constructor, is_get_message, is_handed_out, is_message_constructor}
 use Rattle.kilim_type_spec.specs.Step.{Types, Operand, Is, needs, Takes, by_row, arguments, result_types, vtype, class_vtype, may_name, static_row, static_rules, virtual_row, virtual_rules, special_row, special_by, special_rules, special_fits}
 use Rattle.kilim_type_spec.specs.Typed.{writes, edges, Among}
 use Rattle.kilim_type_sound.specs.Fits.{Classes, HeapFits}
@@ -29,12 +31,16 @@ use Rattle.kilim_program.specs.declared.ty.Base.TheVariants as base
 use Rattle.kilim_program.specs.declared.ty.Ty.{Ty}
 use Rattle.kilim_program.specs.declared.verified.VType.TheVariants.{Int, Object}
 use Rattle.kilim_type_sound.proofs.Calls.{static_calls, static_native, virtual_calls, text_calls, special_calls}
-use Rattle.kilim_type_sound.proofs.Creation.{constructor_calls, constructor_asks, constructor_built_in, construct_first}
+use Rattle.kilim_type_sound.proofs.Creation.{constructor_calls, constructor_asks, constructor_built_in, constructor_keeps, construct_first}
 use Rattle.kilim_type_sound.proofs.Rows.{Before, by_takes}
 
 is_not : (b : Bool) → not b ≡ true → b ≡ false
 is_not true e = absurd (cc)
 is_not false e = refl
+
+-- no constructor has that name
+apart : (name : List ℕ) → bytes_eq name (codes "getMessage") ≡ true → bytes_eq name (codes "<init>") ≡ true → ⊥
+apart name e d = let z : false ≡ true = ap (λ (t : List ℕ). bytes_eq t (codes "<init>")) (sym (text_is name (codes "getMessage") e)) ∙ d in cc
 
 module _ (p : Program) (facts : Facts p) (m : Method) (of : Classes) (h : Objects) (heap : HeapFits p of h) (live : ℕ → ℕ → Bool) (at next : ℕ) (f g : Types) (ls vs : List Value) where
   abbrev After : Instr → Effect → Type 0
@@ -115,14 +121,26 @@ module _ (p : Program) (facts : Facts p) (m : Method) (of : Classes) (h : Object
                 let inst = is_not callee.is_static (and_parts (not callee.is_static) (may_name m callee.is_private callee.owner) (and_parts (not callee.is_static && may_name m callee.is_private callee.owner) true first.0).0).0 in
                 subst (λ (q : MethodId). After i (on_values (length callee.params) vs (λ args below. on_receiver below (λ receiver rest. calls_method (method_at p q) q (receiver ∷ reverse args) next ls rest h)))) (sym itself)
                 (subst (λ (o : Option Method). After i (on_values (length callee.params) vs (λ args below. on_receiver below (λ receiver rest. calls_method o id (receiver ∷ reverse args) next ls rest h)))) (sym e)
-                (subst (λ (y : Bool). After i (on_values (length callee.params) vs (λ args below. on_receiver below (λ receiver rest. cond y (Asks id (receiver ∷ reverse args) next ls rest h) (Calls id (receiver ∷ reverse args) next ls rest h))))) (sym own)
-                (constructor_asks p facts m of h heap live at next f g ls vs i b w on id callee e own inst (needs 8 (not callee.is_static && may_name m callee.is_private callee.owner) ∷ []) (needs 14 (not callee.is_abstract) ∷ []) r)))
+                (subst (λ (y : Bool). After i (on_values (length callee.params) vs (λ args below. on_receiver below (λ receiver rest. cond y (calls_built_in callee id (receiver ∷ reverse args) next ls rest h) (Calls id (receiver ∷ reverse args) next ls rest h))))) (sym own)
+                (by_kind inst (is_message_constructor callee) (is_get_message callee) refl refl)))
+              where
+                no_message : is_get_message callee ≡ true → ⊥
+                no_message k = apart callee.name (and_parts callee.built_in _ k).1 con
+
+                by_kind : callee.is_static ≡ false → (k l : Bool) → is_message_constructor callee ≡ k → is_get_message callee ≡ l →
+                    After i (on_values (length callee.params) vs (λ args below. on_receiver below (λ receiver rest. cond k (keeps_message (receiver ∷ reverse args) next ls rest h) (cond l (gives_message (receiver ∷ reverse args) next ls rest h) (Asks id (receiver ∷ reverse args) next ls rest h)))))
+                by_kind inst true l is other =
+                    let x = facts.keeps_messages id callee e is in
+                    constructor_keeps p facts m of h heap live at next f g ls vs i b w on id callee e own con x.0 x.1 (needs 8 (not callee.is_static && may_name m callee.is_private callee.owner) ∷ []) (needs 14 (not callee.is_abstract) ∷ []) r
+                by_kind inst false true is other = absurd (no_message other)
+                by_kind inst false false is other =
+                    constructor_asks p facts m of h heap live at next f g ls vs i b w on id callee e own inst (needs 8 (not callee.is_static && may_name m callee.is_private callee.owner) ∷ []) (needs 14 (not callee.is_abstract) ∷ []) r
         by_own false own con r =
             let first = construct_first p facts m of h heap live at next f g ls vs i b w on callee (needs 8 (not callee.is_static && may_name m callee.is_private callee.owner) ∷ []) (needs 14 (not callee.is_abstract) ∷ []) r in
             let inst = is_not callee.is_static (and_parts (not callee.is_static) (may_name m callee.is_private callee.owner) (and_parts (not callee.is_static && may_name m callee.is_private callee.owner) true first.0).0).0 in
             subst (λ (q : MethodId). After i (on_values (length callee.params) vs (λ args below. on_receiver below (λ receiver rest. calls_method (method_at p q) q (receiver ∷ reverse args) next ls rest h)))) (sym itself)
             (subst (λ (o : Option Method). After i (on_values (length callee.params) vs (λ args below. on_receiver below (λ receiver rest. calls_method o id (receiver ∷ reverse args) next ls rest h)))) (sym e)
-            (subst (λ (y : Bool). After i (on_values (length callee.params) vs (λ args below. on_receiver below (λ receiver rest. cond y (Asks id (receiver ∷ reverse args) next ls rest h) (Calls id (receiver ∷ reverse args) next ls rest h))))) (sym own)
+            (subst (λ (y : Bool). After i (on_values (length callee.params) vs (λ args below. on_receiver below (λ receiver rest. cond y (calls_built_in callee id (receiver ∷ reverse args) next ls rest h) (Calls id (receiver ∷ reverse args) next ls rest h))))) (sym own)
             (constructor_calls p facts m of h heap live at next f g ls vs i b w on id callee e own inst con (needs 8 (not callee.is_static && may_name m callee.is_private callee.owner) ∷ []) r)))
           where
             itself : special p m callee id ≡ id

@@ -9,6 +9,7 @@ pub mod Maps
 pub mod Values
 pub mod Heap
 pub mod Elements
+pub mod Holders
 pub mod Calls
 pub mod Creation
 pub mod Invokes
@@ -24,6 +25,7 @@ pub mod BuiltInMembers
 pub mod TextClass
 pub mod Throwables
 pub mod Raisable
+pub mod Messages
 pub mod Behind
 pub mod OwnFields
 pub mod Selecting

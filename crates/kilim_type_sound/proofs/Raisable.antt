@@ -1,7 +1,7 @@
 -- The classes of what is raised can be thrown, and have objects: they are built in, below `java/lang/Throwable`.
-use Rattle.std.proofs.Common.{◌≡◌, inl, inr, ℕ, suc, ◌+◌, Bool, true, false, List, [], length, Option, Some, None, refl, sym, ap, subst, ◌∙◌, arith}
+use Rattle.std.proofs.Common.{◌≡◌, inl, inr, ℕ, suc, ◌+◌, Bool, true, false, List, [], ◌∷◌, length, Option, Some, None, refl, sym, ap, subst, ◌∙◌, arith}
 use Rattle.std.specs.Prelude.{◌||◌, not, slice_get, codes}
-use Rattle.std.specs.List.{list_any}
+use Rattle.std.specs.List.{AllByRecursion, list_any}
 use Rattle.std.specs.Str.{bytes_eq}
 use Rattle.std.proofs.lemmas.Bool.{and_from, or_left}
 use Rattle.std.proofs.lemmas.List.{length-append}
@@ -13,7 +13,7 @@ use Rattle.kilim_program.specs.declared.ty.Base.{Base}
 use Rattle.kilim_program.specs.declared.ty.Base.TheVariants as base
 use Rattle.kilim_program.specs.declared.ty.Ty.{Ty}
 use Rattle.kilim_program.specs.Program.{Program}
-use Rattle.kilim_program.specs.BuiltIn.{built_in_classes_in, class_id, class_type}
+use Rattle.kilim_program.specs.BuiltIn.{built_in_classes_in, class_id, class_type, exception_numbers}
 use Rattle.kilim_program.specs.Fits.{is_named}
 use Rattle.kilim_program.specs.Keeps.{Keeps}
 use Rattle.kilim_program.specs.Kinds.{is_value_class}
@@ -163,13 +163,53 @@ module _ (p : Program) (keeps : Keeps p) where
   abbrev Raisable : ClassId → Type 0
   Raisable c = (is_throwable p c ≡ true) × (has_objects p c ≡ true)
 
+  below_runtime : (k : ℕ) (name : List ℕ) → IsRow built n k 9 name → is_throwable p (numbered k) ≡ true
+  below_runtime k name row = in_all k (λ m. step k 9 name row (suc (suc (suc (suc m)))) (of_runtime (suc m)))
+
+  below_index : (k : ℕ) (name : List ℕ) → IsRow built n k 15 name → is_throwable p (numbered k) ≡ true
+  below_index k name row = in_all k (λ m. step k 15 name row (suc (suc (suc (suc m)))) (step 15 9 _ (index_past p.form n methods) (suc (suc (suc m))) (of_runtime m)))
+
+  -- each class of exceptions that is built in
+  pub all_thrown : AllByRecursion (λ (k : ℕ). is_throwable p (numbered k) ≡ true) (7 ∷ exception_numbers)
+  all_thrown = (
+    in_all 7 (λ m. first (suc (suc (suc (suc m))))),
+    (
+      in_all 8 (λ m. of_exception (suc (suc (suc m)))),
+      (
+        in_all 9 (λ m. of_runtime (suc (suc m))),
+        (
+          below_runtime 10 _ (arithmetic p.form n methods),
+          (
+            below_runtime 11 _ (null_pointer p.form n methods),
+            (
+              below_runtime 12 _ (negative_size p.form n methods),
+              (
+                below_runtime 13 _ (class_cast p.form n methods),
+                (
+                  below_runtime 14 _ (array_store p.form n methods),
+                  (
+                    below_runtime 15 _ (index_past p.form n methods),
+                    (
+                      below_index 16 _ (array_past p.form n methods),
+                      (below_index 17 _ (text_past p.form n methods), tt),
+                    ),
+                  ),
+                ),
+              ),
+            ),
+          ),
+        ),
+      ),
+    ),
+  )
+
   -- directly below `java/lang/RuntimeException`
   below : (k : ℕ) (name : List ℕ) → IsRow built n k 9 name → bytes_eq [] name ≡ false → (c : ClassId) → class_named p name ≡ Some c → Raisable c
-  below k name row some c e = subst Raisable (sym (found k 9 name row some c e)) (in_all k (λ m. step k 9 name row (suc (suc (suc (suc m)))) (of_runtime (suc m))), objects k 9 name row)
+  below k name row some c e = subst Raisable (sym (found k 9 name row some c e)) (below_runtime k name row, objects k 9 name row)
 
   -- directly below `java/lang/IndexOutOfBoundsException`
   past : (k : ℕ) (name : List ℕ) → IsRow built n k 15 name → bytes_eq [] name ≡ false → (c : ClassId) → class_named p name ≡ Some c → Raisable c
-  past k name row some c e = subst Raisable (sym (found k 15 name row some c e)) (in_all k (λ m. step k 15 name row (suc (suc (suc (suc m)))) (step 15 9 _ (index_past p.form n methods) (suc (suc (suc m))) (of_runtime m))), objects k 15 name row)
+  past k name row some c e = subst Raisable (sym (found k 15 name row some c e)) (below_index k name row, objects k 15 name row)
 
   index : (name : List ℕ) → IsIndexName name → (c : ClassId) → class_named p name ≡ Some c → Raisable c
   index name (inl is) c e = past 16 array_index (array_past p.form n methods) refl c (ap (class_named p) (sym is) ∙ e)

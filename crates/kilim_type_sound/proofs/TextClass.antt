@@ -15,8 +15,8 @@ use Rattle.kilim_program.specs.declared.ty.Base.TheVariants as base
 use Rattle.kilim_program.specs.declared.ty.Qualifier.TheVariants.{Cuttable, Free, Safe}
 use Rattle.kilim_program.specs.declared.ty.Ty.{Ty}
 use Rattle.kilim_program.specs.Program.{Program}
-use Rattle.kilim_program.specs.BuiltIn.{built_in_classes_in, built_in_constructor, built_in_method, built_in_methods_in, class_id, class_type, exception_numbers, fiber_methods, fiber_params, fiber_qualifiers, fiber_type, int_type, of_fiber, plain_type, is_exception}
-use Rattle.kilim_program.proofs.BuiltIns.{constructors_too, exception_name}
+use Rattle.kilim_program.specs.BuiltIn.{built_in_classes_in, built_in_constructor, built_in_method, built_in_methods_in, class_id, class_type, fiber_methods, fiber_params, fiber_qualifiers, fiber_type, get_message, int_type, is_exception, of_fiber, plain_type}
+use Rattle.kilim_program.proofs.BuiltIns.{exceptions_too, exception_name}
 use Rattle.kilim_program.specs.Fits.{class_assignable, fits_type, is_named, type_assignable}
 use Rattle.kilim_program.specs.Kinds.{is_message}
 use Rattle.kilim_program.specs.Names.{◌>>=◌, class_at, class_name, class_named, line_of, line_up_to, method_at}
@@ -44,7 +44,8 @@ module _ (p : Program) where
   not_text : (m : Method) (name : List ℕ) → class_name p m.owner ≡ name → bytes_eq name string_name ≡ false → TextOnly p m
   not_text m name is other text = absurd (let f = subst (λ (n : List ℕ). (m.built_in && bytes_eq n string_name) ≡ true) is text in let g = (and_parts m.built_in (bytes_eq name string_name) f).1 in cc)
 
-  module _ (n : ℕ) (object : class_name p (class_id n) ≡ codes "java/lang/Object") (task : class_name p (class_id (n + 4)) ≡ codes "kilim/Task") (mailbox : class_name p (class_id (n + 5)) ≡ codes "kilim/Mailbox") where
+  module _ (n : ℕ) (object : class_name p (class_id n) ≡ codes "java/lang/Object") (task : class_name p (class_id (n + 4)) ≡ codes "kilim/Task") (mailbox : class_name p (class_id (n + 5)) ≡ codes "kilim/Mailbox")
+      (throwable : class_name p (class_id (n + 7)) ≡ codes "java/lang/Throwable") where
     texts_plain : AllByRecursion (TextOnly p) (built_in_methods_in Plain n)
     texts_plain = (
       not_text (built_in_constructor (class_id n)) (codes "java/lang/Object") object refl,
@@ -86,7 +87,7 @@ module _ (p : Program) where
                                           (λ t s. absurd (let z : true ≡ false = s in cc)),
                                           (
                                             (λ t s. absurd (let z : true ≡ false = s in cc)),
-                                            constructors_too (TextOnly p) n exception_numbers [] (λ c t s k. absurd (let z : true ≡ false = k in cc)) tt,
+                                            exceptions_too (TextOnly p) n [] (λ c t s k. absurd (let z : true ≡ false = k in cc)) (λ c t s k. absurd (let z : true ≡ false = k in cc)) (not_text (get_message n) (codes "java/lang/Throwable") throwable refl) tt,
                                           ),
                                         ),
                                       ),
@@ -149,7 +150,7 @@ module _ (p : Program) where
                                           (λ t s. absurd (let z : true ≡ false = s in cc)),
                                           (
                                             (λ t s. absurd (let z : true ≡ false = s in cc)),
-                                            constructors_too (TextOnly p) n exception_numbers (fiber_methods Woven n) (λ c t s k. absurd (let z : true ≡ false = k in cc)) (
+                                            exceptions_too (TextOnly p) n (fiber_methods Woven n) (λ c t s k. absurd (let z : true ≡ false = k in cc)) (λ c t s k. absurd (let z : true ≡ false = k in cc)) (not_text (get_message n) (codes "java/lang/Throwable") throwable refl) (
                                               not_text (of_fiber n (codes "pc") (Some (int_type))) (codes "kilim/Fiber") fiber refl,
                                               (
                                                 not_text (of_fiber n (codes "down") (Some (fiber_type n))) (codes "kilim/Fiber") fiber refl,
@@ -216,6 +217,10 @@ named_5 : (form : Form) (a b : ℕ) → NamedAt form a b 5 (codes "kilim/Mailbox
 named_5 Plain a b = record { class = _; at = refl; is = refl }
 named_5 Woven a b = record { class = _; at = refl; is = refl }
 
+named_7 : (form : Form) (a b : ℕ) → NamedAt form a b 7 (codes "java/lang/Throwable")
+named_7 Plain a b = record { class = _; at = refl; is = refl }
+named_7 Woven a b = record { class = _; at = refl; is = refl }
+
 module _ (p : Program) (keeps : Keeps p) where
   abbrev own : List Class
   own = keeps.built_in.own_classes
@@ -231,9 +236,10 @@ module _ (p : Program) (keeps : Keeps p) where
 
   all_text : (form : Form) → p.form ≡ form → AllByRecursion (TextOnly p) (built_in_methods_in form n)
   all_text Plain is = texts_plain p n (object_name Plain is) (named_at p keeps Plain is 4 (codes "kilim/Task") (named_4 Plain n methods)) (named_at p keeps Plain is 5 (codes "kilim/Mailbox") (named_5 Plain n methods))
+      (named_at p keeps Plain is 7 (codes "java/lang/Throwable") (named_7 Plain n methods))
   all_text Woven is =
       texts_woven p n (object_name Woven is) (named_at p keeps Woven is 4 (codes "kilim/Task") (named_4 Woven n methods)) (named_at p keeps Woven is 5 (codes "kilim/Mailbox") (named_5 Woven n methods))
-      (named_at p keeps Woven is 18 (codes "kilim/Fiber") (fiber_at n methods))
+      (named_at p keeps Woven is 7 (codes "java/lang/Throwable") (named_7 Woven n methods)) (named_at p keeps Woven is 18 (codes "kilim/Fiber") (fiber_at n methods))
 
   text_kind : (id : MethodId) (callee : Method) → method_at p id ≡ Some callee → TextOnly p callee
   text_kind id callee there text =

@@ -7,7 +7,7 @@ use Rattle.kilim_program.specs.declared.names.ClassId.{ClassId}
 use Rattle.kilim_program.specs.declared.names.MethodId.{MethodId}
 use Rattle.kilim_program.specs.declared.ty.Base.{Base}
 use Rattle.kilim_program.specs.declared.ty.Base.TheVariants as base
-use Rattle.kilim_program.specs.BuiltIn.{class_type, plain_type}
+use Rattle.kilim_program.specs.BuiltIn.{class_type, message_field, plain_type}
 use Rattle.kilim_program.specs.Names.{class_at, method_at, field_of, class_named, class_name}
 use Rattle.kilim_program.specs.Members.{object_fields}
 use Rattle.kilim_program.specs.Keeps.{constant_fits}
@@ -15,7 +15,7 @@ use Rattle.std.specs.List.{list_all, list_any}
 use Rattle.kilim_program.specs.Same.{is_constructor, same_qualifier}
 use Rattle.kilim_program.specs.Members.{named_type}
 use Rattle.kilim_run_machine.specs.Does.{chosen, special, is_mailbox, narrowed_int}
-use Rattle.kilim_run_machine.specs.Natives.{is_handed_out, is_text_method}
+use Rattle.kilim_run_machine.specs.Natives.{is_get_message, is_handed_out, is_message_constructor, is_text_method}
 use Rattle.kilim_type_spec.specs.Step.{superclass_at, special_fits, may_name}
 use Rattle.kilim_type_spec.specs.Typed.{has_code}
 use Rattle.kilim_type_sound.specs.Fits.{has_objects, int_fits, is_of}
@@ -65,6 +65,16 @@ pub record TextMethod (p : Program) (callee : Method) : Type 0 where
 
 -- ---- exceptions
 
+-- The message is an instance field of the class of strings; the class of the method is the one that declares it, or is below.
+pub record OfMessage (p : Program) (m : Method) : Type 0 where
+  pub field : Field
+  pub there : field_of p message_field ≡ Some field
+  pub instance : field.is_static ≡ false
+  pub text : ClassId
+  pub typed : field.ty ≡ class_type text.0
+  pub is_text : bytes_eq (class_name p text) (codes "java/lang/String") ≡ true
+  pub above : fits_type p (class_type m.owner.0) (class_type field.owner.0) ≡ true
+
 -- the class of an index past the end: one of three names
 abbrev pub IsIndexName : List ℕ → Type 0
 IsIndexName name = (name ≡ array_index) ⊎ (name ≡ text_index) ⊎ (name ≡ other_index)
@@ -74,6 +84,9 @@ pub record Facts (p : Program) : Type 0 where
   -- a static built-in method that isn't handed out is `Sys.take`
   pub takes : (id : MethodId) (callee : Method) → method_at p id ≡ Some callee → callee.built_in ≡ true → callee.is_static ≡ true → is_handed_out p callee ≡ false →
       (k : ClassId) × (callee.params ≡ record { dims = 1; base = base.Class k } ∷ plain_type base.Int ∷ []) × (callee.result ≡ Some (class_type k.0))
+  -- what keeps the message of an exception is handed it alone, and what gives it is handed nothing
+  pub keeps_messages : (id : MethodId) (m : Method) → method_at p id ≡ Some m → is_message_constructor m ≡ true → (x : OfMessage p m) × (m.params ≡ x.field.ty ∷ [])
+  pub gives_messages : (id : MethodId) (m : Method) → method_at p id ≡ Some m → is_get_message m ≡ true → (x : OfMessage p m) × (m.params ≡ []) × (m.result ≡ Some x.field.ty)
   -- an object of a class or a subclass has the instance fields that the class declares
   pub fields : (x : FieldId) (field : Field) → field_of p x ≡ Some field → field.is_static ≡ false → (d : ℕ) (b : Base) → fits_type p (record { dims = d; base = b }) (class_type field.owner.0) ≡ true → OwnsField p d b x
   -- strings, mailboxes and fibers have no fields

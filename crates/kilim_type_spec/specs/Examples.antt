@@ -87,8 +87,8 @@ too_high =
 abbrev pub wrong_operands : List (Instr × Types)
 wrong_operands =
     on Ladd (Int ∷ Int ∷ []) ∷ on Iadd (Int ∷ Null ∷ []) ∷ on Iaload (Int ∷ array 1 base.Short ∷ []) ∷ on Aaload (Int ∷ array 1 base.Int ∷ [])
-    ∷ on (Getfield (record { 0 = 0 })) (of_class p_class ∷ []) ∷ on (Getfield (record { 0 = 0 })) (Uninit 3 ∷ []) ∷ on (Checkcast (class_type m_class)) (Uninit 3 ∷ [])
-    ∷ on (Putfield (record { 0 = 1 })) (of_class p_class ∷ of_class m_class ∷ []) ∷ on (Istore 0) (Null ∷ []) ∷ on (Astore 0) (Int ∷ [])
+    ∷ on (Getfield (record { 0 = 1 })) (of_class p_class ∷ []) ∷ on (Getfield (record { 0 = 1 })) (Uninit 3 ∷ []) ∷ on (Checkcast (class_type m_class)) (Uninit 3 ∷ [])
+    ∷ on (Putfield (record { 0 = 2 })) (of_class p_class ∷ of_class m_class ∷ []) ∷ on (Istore 0) (Null ∷ []) ∷ on (Astore 0) (Int ∷ [])
     ∷ on (Invokevirtual (method_id 3)) (Null ∷ of_class p_class ∷ []) ∷ on Areturn (Int ∷ []) ∷ []
 
 -- rule 6
@@ -103,11 +103,11 @@ split_longs = on Pop (Long ∷ []) ∷ on Dup (Long ∷ []) ∷ on Swap (Long �
 
 -- rule 8: a private field of P is named from P in `passing_members`, here statically, and an instance method so
 abbrev pub wrong_members : List (Instr × Types)
-wrong_members = on (Getstatic (record { 0 = 2 })) [] ∷ on (Invokestatic (method_id 3)) (Int ∷ of_class p_class ∷ []) ∷ on (Invokevirtual (method_id 6)) (Long ∷ of_class p_class ∷ []) ∷ []
+wrong_members = on (Getstatic (record { 0 = 3 })) [] ∷ on (Invokestatic (method_id 3)) (Int ∷ of_class p_class ∷ []) ∷ on (Invokevirtual (method_id 6)) (Long ∷ of_class p_class ∷ []) ∷ []
 
 abbrev pub passing_members : List (Instr × Types)
 passing_members =
-    on (Getfield (record { 0 = 2 })) (of_class p_class ∷ []) ∷ on (Invokevirtual (method_id 3)) (Int ∷ of_class q_class ∷ []) ∷ on (Invokestatic (method_id 6)) (Long ∷ [])
+    on (Getfield (record { 0 = 3 })) (of_class p_class ∷ []) ∷ on (Invokevirtual (method_id 3)) (Int ∷ of_class q_class ∷ []) ∷ on (Invokestatic (method_id 6)) (Long ∷ [])
     ∷ on (Invokespecial (method_id 2)) (of_class p_class ∷ []) ∷ on (Invokespecial (method_id 0)) (Uninit 3 ∷ []) ∷ on (New (class_id m_class)) [] ∷ on (Ldc (Text [])) [] ∷ on (Ldc2W (LongValue (pos 1))) [] ∷ []
 
 -- rule 9, 10, 13, 14

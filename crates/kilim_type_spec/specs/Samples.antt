@@ -14,7 +14,7 @@ use Rattle.kilim_program.specs.declared.verified.Frame.{Frame}
 use Rattle.kilim_program.specs.declared.verified.VType.{VType}
 use Rattle.kilim_program.specs.declared.verified.VType.TheVariants.{Object}
 use Rattle.kilim_program.specs.Program.{Program}
-use Rattle.kilim_program.specs.BuiltIn.{class_id, class_type, int_type, plain_type, method_id, built_in_classes_in, built_in_methods_in}
+use Rattle.kilim_program.specs.BuiltIn.{class_id, class_type, int_type, plain_type, method_id, built_in_classes_in, built_in_fields, built_in_methods_in}
 
 -- Its classes: M is a message, N extends M, P is a private class, Q an abstract one below P; then the built-in ones.
 abbrev pub m_class : ℕ
@@ -66,7 +66,7 @@ own_methods =
     ∷ sample_method (codes "fixed") p_class (plain_type base.Long ∷ []) None true false
     ∷ []
 
--- fields: 0 the int of M, 1 the message of M, 2 the private int of P
+-- fields: 1 the int of M, 2 the message of M, 3 the private int of P
 abbrev pub sample : Program
 sample = record {
   classes =
@@ -77,7 +77,8 @@ sample = record {
       ∷ built_in_classes_in Plain 4 7;
   methods = own_methods ++ built_in_methods_in Plain 4;
   fields =
-      sample_field (codes "value") m_class int_type false
+      built_in_fields 4
+      ++ sample_field (codes "value") m_class int_type false
       ∷ sample_field (codes "next") m_class (class_type message_class) false
       ∷ sample_field (codes "own") p_class int_type true
       ∷ [];

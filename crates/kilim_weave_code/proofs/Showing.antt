@@ -1,6 +1,7 @@
 -- The frames of woven code.
-use Rattle.std.proofs.Common.{◌≡◌, ℕ, zero, suc, ◌+◌, ◌-◌, ◌<◌, ◌≤◌, Bool, true, false, cond, List, [], ◌∷◌, ◌++◌, length, take, drop, reverse, map, get_or, slice_get, Some, refl, ap, sym, subst, ◌∙◌, arith, append_assoc, eq-eqb}
+use Rattle.std.proofs.Common.{◌≡◌, ℕ, zero, suc, ◌+◌, ◌-◌, ◌<◌, ◌≤◌, Bool, true, false, cond, List, [], ◌∷◌, ◌++◌, length, take, drop, reverse, map, get_or, slice_get, Option, Some, refl, ap, sym, subst, ◌∙◌, arith, append_assoc, eq-eqb}
 use Rattle.std.proofs.lemmas.Bool.{ne_eqb}
+use Rattle.std.proofs.lemmas.List.{length-map}
 use Rattle.std.specs.Prelude.{◌&&◌, ◌||◌, ◌==◌, not, if◌then◌else◌}
 use Rattle.kilim_lemmas.proofs.Lists.{drop_next}
 use Rattle.kilim_program.specs.declared.class.Method.{Method}
@@ -12,7 +13,7 @@ use Rattle.kilim_program.specs.Lengths.{is_code_place}
 use Rattle.kilim_program.specs.Program.{Program}
 use Rattle.kilim_program.specs.lookups.Places.{Above, Rising}
 use Rattle.kilim_type_spec.specs.Step.{Types, is_top, peek}
-use Rattle.kilim_type_spec.specs.Typed.{frame_among, frames_of, listed, padded, typing_of}
+use Rattle.kilim_type_spec.specs.Typed.{arriving, declared, entry, frame_among, frames_from, frames_of, left_by, listed, padded, typing_of}
 use Rattle.kilim_type_laws.specs.Laws.{ListedFramesShow}
 use Rattle.kilim_weave_spec.specs.Woven.{Plan, added_types, fiber_slot, first_of, kept_local, moved_type, old_frame, saved_from, slots_from}
 use Rattle.kilim_weave_pieces.specs.Listed.{Listed}
@@ -151,3 +152,14 @@ frame_is x place frame f locals stack shows =
     let all = slots_from 0 (fiber_slot x.method) (kept_local x place) ++ added_types x in
     ap (λ (ts : List VType). let g : Frame = record { locals = ts; stack = f.stack } in g) locals
     ∙ ap (λ (ts : List VType). let g : Frame = record { locals = all; stack = ts } in g) (stack ∙ map_around (moved_type x.at) frame.stack (x.typing place).stack shows.stack)
+
+-- ---- there is one for each instruction
+
+frames_long : (p : Program) (m : Method) (flow : Option Types) (es : List (ℕ × Instr)) → length (frames_from p m flow es) ≡ length es
+frames_long p m flow [] = refl
+frames_long p m flow (e ∷ es) = ap suc (frames_long p m (left_by p m e (arriving flow (declared m e.0))) es)
+
+pub listed_there : (p : Program) (m : Method) (frames : List Frame) (at : ℕ) → Listed p m frames → at < length m.code → at < length frames
+listed_there p m frames at l lt =
+    let long : length frames ≡ length m.code = ap length l.are ∙ (length-map (frames_of p m) (listed m) ∙ frames_long p m (Some (entry m)) m.code) in
+    omega (arith, long, lt)

@@ -1,5 +1,5 @@
 -- How long old instructions are in woven code.
-use Rattle.std.proofs.Common.{◌≡◌, ℕ, ℤ, true, List, length, refl, ap, sym, ◌∙◌}
+use Rattle.std.proofs.Common.{◌≡◌, ℕ, ℤ, true, false, List, length, refl, ap, sym, ◌∙◌}
 use Rattle.kilim_program.specs.declared.instr.Instr.{Instr}
 use Rattle.kilim_program.specs.declared.instr.Instr.TheVariants.{Iload, Lload, Aload, Istore, Lstore, Astore, Tableswitch, Lookupswitch}
 use Rattle.kilim_weave_spec.specs.Woven.{old_size}
@@ -19,3 +19,16 @@ kept_sized (Astore slot) n h = absurd (cc)
 kept_sized (Tableswitch default low targets) n h = absurd (cc)
 kept_sized (Lookupswitch default pairs) n h = absurd (cc)
 kept_sized i n h = refl
+
+-- no other instruction changes its length
+pub none_other : (i : Instr) → is_kept i ≡ false → ((n : ℕ) → i ≡ Iload n → ⊥) → ((n : ℕ) → i ≡ Lload n → ⊥) → ((n : ℕ) → i ≡ Aload n → ⊥) → ((n : ℕ) → i ≡ Istore n → ⊥) → ((n : ℕ) → i ≡ Lstore n → ⊥) → ((n : ℕ) → i ≡ Astore n → ⊥) →
+    ((d : ℕ) (l : ℤ) (ts : List ℕ) → i ≡ Tableswitch d l ts → ⊥) → ((d : ℕ) (ps : List (ℤ × ℕ)) → i ≡ Lookupswitch d ps → ⊥) → ⊥
+none_other (Iload n) h a b c d e f g k = a n refl
+none_other (Lload n) h a b c d e f g k = b n refl
+none_other (Aload n) h a b c d e f g k = c n refl
+none_other (Istore n) h a b c d e f g k = d n refl
+none_other (Lstore n) h a b c d e f g k = e n refl
+none_other (Astore n) h a b c d e f g k = f n refl
+none_other (Tableswitch d l ts) h a b c q e f g k = g d l ts refl
+none_other (Lookupswitch d ps) h a b c q e f g k = k d ps refl
+none_other i h a b c d e f g k = cc

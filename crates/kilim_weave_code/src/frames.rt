@@ -13,7 +13,7 @@ ghost use Rattle.kilim_weave_pieces.specs.Meant.{Ready, meant};
 use kilim_program::{ClassId, Frame, Instr, Method, VType};
 use kilim_type_laws::listed_frames_show;
 use kilim_type_spec::VerifiedFrame;
-use kilim_units::{NoMemory, Seq, unmet};
+use kilim_units::{NoMemory, Seq};
 use kilim_weave_pieces::{Places, Plan, class_vtype, type_at};
 use std::alloc::Global;
 
@@ -53,18 +53,14 @@ pub fn place_behind(method: &Method, at: usize) -> u32
     behind_in(code, method.code_length, at)
 }
 
-/// The frame at the instruction of a number. Want of memory comes only where it isn't there.
-pub fn frame_at<'a>(plan: &Plan<'a>, at: usize) -> Result<&'a VerifiedFrame, NoMemory>
-    requires { Ready plan.now }
-    ensures { IfOk result (λ frame. (e : ℕ × Instr) → slice_get plan.now.method.now.code at ≡ Some e → Shown (meant plan.now) e.0 frame.now) }
+/// The frame at the instruction of a number.
+pub fn frame_at<'a>(plan: &Plan<'a>, at: usize) -> &'a VerifiedFrame
+    requires ready { Ready plan.now }
+    requires at { at < length plan.now.method.now.code }
+    ensures { (e : ℕ × Instr) → slice_get plan.now.method.now.code at ≡ Some e → Shown (meant plan.now) e.0 result.now }
 {
     listed_frames_show();
-    let frames = plan.frames;
-    if at >= frames.len() {
-        // unmet: the frames are listed for each instruction of code that is reached
-        return Err(unmet());
-    }
-    Ok(frame_of(frames, at))
+    frame_of(plan.frames, at)
 }
 
 fn frame_of(frames: &[VerifiedFrame], at: usize) -> &VerifiedFrame

@@ -265,7 +265,6 @@ pub fn old_size(instr: &Instr, place: u32, next: u32) -> Result<Size, NoMemory>
             let count = count_of(pairs.len())?;
             Ok(Size::Lookup(count))
         }
-        // unmet: each instruction of the old code has a size
-        _ => Err(unmet()),
+        _ => unreachable!(),
     }
 }

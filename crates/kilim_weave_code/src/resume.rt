@@ -158,9 +158,7 @@ pub fn blocks(alloc: Global, plan: &Plan, number: u32, items: &mut Items) -> Res
         let entry = entry_of(plan.method, left);
         let next = place_behind(plan.method, left);
         let callee = pausable_callee(plan.program, &entry.1);
-        let Ok(frame) = frame_at(plan, left) else {
-            return Err(NoMemory);
-        };
+        let frame = frame_at(plan, left);
         let mine = number_before(callee, number);
         number = mine;
         let Ok(()) = block(alloc, plan, callee, mine, entry.0, next, frame, items) else {

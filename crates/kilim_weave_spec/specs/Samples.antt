@@ -12,7 +12,7 @@ use Rattle.kilim_program.specs.declared.verified.Frame.{Frame}
 use Rattle.kilim_program.specs.declared.verified.VType.{VType}
 use Rattle.kilim_program.specs.declared.verified.VType.TheVariants.{Top, Int, Long, Object}
 use Rattle.kilim_program.specs.Program.{Program}
-use Rattle.kilim_program.specs.BuiltIn.{class_id, class_type, int_type, method_id, built_in_classes_in, built_in_methods_in}
+use Rattle.kilim_program.specs.BuiltIn.{class_id, class_type, int_type, method_id, built_in_classes_in, built_in_fields, built_in_methods_in}
 use Rattle.kilim_weave_spec.specs.Woven.{Plan}
 use Rattle.kilim_weave_spec.specs.Form.{plan_of}
 
@@ -46,7 +46,7 @@ abbrev pub loop : Program
 loop = record {
   classes = sample_class (codes "T") 5 false (method_id 0 ∷ method_id 1 ∷ []) ∷ built_in_classes_in Plain 1 2;
   methods = sample_constructor 0 6 ∷ loop_execute ∷ built_in_methods_in Plain 1;
-  fields = [];
+  fields = built_in_fields 1;
   form = Plain;
 }
 
@@ -61,10 +61,10 @@ no_old_locals = record { locals = Top ∷ Top ∷ of_class 19 ∷ of_class 0 ∷
 abbrev pub woven_loop_execute : Method
 woven_loop_execute = record (sample_method (codes "execute") 0 true 4 4 55
     ((0, Aload 1) ∷ (1, Astore 2) ∷ (2, Aload 0) ∷ (3, Astore 3)
-    ∷ (4, Aload 2) ∷ (5, Invokevirtual (method_id 33)) ∷ (8, Tableswitch 28 (pos 1) (52 ∷ []))
-    ∷ (28, Aload 2) ∷ (29, Invokevirtual (method_id 34)) ∷ (32, Invokestatic (method_id 18))
-    ∷ (35, Aload 2) ∷ (36, Invokevirtual (method_id 35)) ∷ (39, Ifeq 49)
-    ∷ (42, Iconst (pos 1)) ∷ (43, Aload 3) ∷ (44, Aload 2) ∷ (45, Invokestatic (method_id 39)) ∷ (48, Return)
+    ∷ (4, Aload 2) ∷ (5, Invokevirtual (method_id 45)) ∷ (8, Tableswitch 28 (pos 1) (52 ∷ []))
+    ∷ (28, Aload 2) ∷ (29, Invokevirtual (method_id 46)) ∷ (32, Invokestatic (method_id 18))
+    ∷ (35, Aload 2) ∷ (36, Invokevirtual (method_id 47)) ∷ (39, Ifeq 49)
+    ∷ (42, Iconst (pos 1)) ∷ (43, Aload 3) ∷ (44, Aload 2) ∷ (45, Invokestatic (method_id 51)) ∷ (48, Return)
     ∷ (49, Goto 28)
     ∷ (52, Goto 28)
     ∷ [])
@@ -75,7 +75,7 @@ abbrev pub woven_loop : Program
 woven_loop = record {
   classes = sample_class (codes "T") 5 false (method_id 0 ∷ method_id 1 ∷ []) ∷ built_in_classes_in Woven 1 2;
   methods = sample_constructor 0 6 ∷ woven_loop_execute ∷ built_in_methods_in Woven 1;
-  fields = [];
+  fields = built_in_fields 1;
   form = Woven;
 }
 
@@ -96,11 +96,11 @@ values_execute =
     sample_method (codes "execute") 0 true 5 4 43
     ((0, Bipush (pos 8)) ∷ (2, Ldc2W (LongValue (pos 7)))
     ∷ (5, New (class_id 1)) ∷ (8, Dup) ∷ (9, Invokespecial (method_id 2)) ∷ (12, Astore 3)
-    ∷ (13, Aload 3) ∷ (14, Bipush (pos 6)) ∷ (16, Putfield (record { 0 = 0 }))
+    ∷ (13, Aload 3) ∷ (14, Bipush (pos 6)) ∷ (16, Putfield (record { 0 = 1 }))
     ∷ (19, Iconst (pos 5)) ∷ (20, Istore 1)
     ∷ (21, Invokestatic (method_id 19))
     ∷ (24, Iload 1) ∷ (25, Invokestatic (method_id 16))
-    ∷ (28, Aload 3) ∷ (29, Getfield (record { 0 = 0 })) ∷ (32, Invokestatic (method_id 16))
+    ∷ (28, Aload 3) ∷ (29, Getfield (record { 0 = 1 })) ∷ (32, Invokestatic (method_id 16))
     ∷ (35, L2i) ∷ (36, Invokestatic (method_id 16))
     ∷ (39, Invokestatic (method_id 16))
     ∷ (42, Return)
@@ -109,9 +109,9 @@ values_execute =
 
 abbrev pub values : Program
 values = record {
-  classes = sample_class (codes "A") 6 false (method_id 0 ∷ method_id 1 ∷ []) ∷ record (sample_class (codes "N") 2 true (method_id 2 ∷ [])) { fields = record { 0 = 0 } ∷ [] } ∷ built_in_classes_in Plain 2 3;
+  classes = sample_class (codes "A") 6 false (method_id 0 ∷ method_id 1 ∷ []) ∷ record (sample_class (codes "N") 2 true (method_id 2 ∷ [])) { fields = record { 0 = 1 } ∷ [] } ∷ built_in_classes_in Plain 2 3;
   methods = sample_constructor 0 7 ∷ values_execute ∷ sample_constructor 1 3 ∷ built_in_methods_in Plain 2;
-  fields = record { name = codes "v"; ty = int_type; owner = class_id 1; is_static = false; is_private = false; constant = None } ∷ [];
+  fields = built_in_fields 2 ++ record { name = codes "v"; ty = int_type; owner = class_id 1; is_static = false; is_private = false; constant = None } ∷ [];
   form = Plain;
 }
 
@@ -126,27 +126,27 @@ values_plan = plan_of values values_execute values_live (λ place. if nat_lt pla
 abbrev pub woven_values : List (ℕ × Instr)
 woven_values =
     (0, Aload 1) ∷ (1, Astore 4) ∷ (3, Aload 0) ∷ (4, Astore 5)
-    ∷ (6, Aload 4) ∷ (8, Invokevirtual (method_id 34)) ∷ (11, Tableswitch 28 (pos 1) (115 ∷ []))
+    ∷ (6, Aload 4) ∷ (8, Invokevirtual (method_id 46)) ∷ (11, Tableswitch 28 (pos 1) (115 ∷ []))
     ∷ (28, Bipush (pos 8)) ∷ (30, Ldc2W (LongValue (pos 7)))
     ∷ (33, New (class_id 1)) ∷ (36, Dup) ∷ (37, Invokespecial (method_id 2)) ∷ (40, Astore 3)
-    ∷ (41, Aload 3) ∷ (42, Bipush (pos 6)) ∷ (44, Putfield (record { 0 = 0 }))
+    ∷ (41, Aload 3) ∷ (42, Bipush (pos 6)) ∷ (44, Putfield (record { 0 = 1 }))
     ∷ (47, Iconst (pos 5)) ∷ (48, Istore 1)
-    ∷ (49, Aload 4) ∷ (51, Invokevirtual (method_id 35)) ∷ (54, Invokestatic (method_id 19))
-    ∷ (57, Aload 4) ∷ (59, Invokevirtual (method_id 36)) ∷ (62, Ifeq 96)
-    ∷ (65, Aload 4) ∷ (67, Invokestatic (method_id 38))
-    ∷ (70, Aload 4) ∷ (72, Invokestatic (method_id 37))
-    ∷ (75, Iload 1) ∷ (76, Aload 4) ∷ (78, Invokestatic (method_id 37))
-    ∷ (81, Aload 3) ∷ (82, Aload 4) ∷ (84, Invokestatic (method_id 39))
-    ∷ (87, Iconst (pos 1)) ∷ (88, Aload 5) ∷ (90, Aload 4) ∷ (92, Invokestatic (method_id 40)) ∷ (95, Return)
+    ∷ (49, Aload 4) ∷ (51, Invokevirtual (method_id 47)) ∷ (54, Invokestatic (method_id 19))
+    ∷ (57, Aload 4) ∷ (59, Invokevirtual (method_id 48)) ∷ (62, Ifeq 96)
+    ∷ (65, Aload 4) ∷ (67, Invokestatic (method_id 50))
+    ∷ (70, Aload 4) ∷ (72, Invokestatic (method_id 49))
+    ∷ (75, Iload 1) ∷ (76, Aload 4) ∷ (78, Invokestatic (method_id 49))
+    ∷ (81, Aload 3) ∷ (82, Aload 4) ∷ (84, Invokestatic (method_id 51))
+    ∷ (87, Iconst (pos 1)) ∷ (88, Aload 5) ∷ (90, Aload 4) ∷ (92, Invokestatic (method_id 52)) ∷ (95, Return)
     ∷ (96, Iload 1) ∷ (97, Invokestatic (method_id 16))
-    ∷ (100, Aload 3) ∷ (101, Getfield (record { 0 = 0 })) ∷ (104, Invokestatic (method_id 16))
+    ∷ (100, Aload 3) ∷ (101, Getfield (record { 0 = 1 })) ∷ (104, Invokestatic (method_id 16))
     ∷ (107, L2i) ∷ (108, Invokestatic (method_id 16))
     ∷ (111, Invokestatic (method_id 16))
     ∷ (114, Return)
-    ∷ (115, Aload 4) ∷ (117, Invokevirtual (method_id 43)) ∷ (120, Checkcast (class_type 1)) ∷ (123, Astore 3)
-    ∷ (124, Aload 4) ∷ (126, Invokevirtual (method_id 41)) ∷ (129, Istore 1)
-    ∷ (130, Aload 4) ∷ (132, Invokevirtual (method_id 41))
-    ∷ (135, Aload 4) ∷ (137, Invokevirtual (method_id 42))
+    ∷ (115, Aload 4) ∷ (117, Invokevirtual (method_id 55)) ∷ (120, Checkcast (class_type 1)) ∷ (123, Astore 3)
+    ∷ (124, Aload 4) ∷ (126, Invokevirtual (method_id 53)) ∷ (129, Istore 1)
+    ∷ (130, Aload 4) ∷ (132, Invokevirtual (method_id 53))
+    ∷ (135, Aload 4) ∷ (137, Invokevirtual (method_id 54))
     ∷ (140, Goto 49)
     ∷ []
 

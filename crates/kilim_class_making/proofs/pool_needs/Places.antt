@@ -4,10 +4,11 @@ use Rattle.std.specs.List.{position_from}
 use Rattle.std.proofs.lemmas.Slice.Eq.{bytes_eq-Decides}
 use Rattle.std.proofs.lemmas.Option.{none-some}
 use Rattle.kilim_class_pool.specs.declared.entry.Entry.{Entry}
+use Rattle.kilim_class_pool.specs.declared.entry.Entry.TheVariants.{Utf8}
 use Rattle.kilim_class_pool.specs.Entries.{slots_of, slot, entry_at, count_of}
 use Rattle.kilim_class_pool.specs.Adding.{Adds}
-use Rattle.kilim_class_making.specs.pool_needs.Adding.{Test, class_index, found, index_or_none, text_index, unless_found, with_call, with_class, with_method, with_text}
-use Rattle.kilim_class_making.proofs.pool_needs.Searching.{found_passes}
+use Rattle.kilim_class_making.specs.pool_needs.Adding.{Test, class_index, found, index_or_none, is_text, text_index, unless_found, with_call, with_class, with_method, with_text}
+use Rattle.kilim_class_making.proofs.pool_needs.Searching.{found_last, found_passes}
 
 abbrev Slots : Type 0
 Slots = List (Option Entry)
@@ -132,3 +133,16 @@ pub method_chain : (o n d : List ℕ) (p0 p1 p2 : List Entry) (c t : ℕ) → p1
 method_chain o n d p0 p1 p2 c t e1 e2 ec et =
     ap (λ x. with_call x t d p2) ec
     ∙ (ap (λ x. with_call (class_index p2 o) x d p2) et ∙ ap (λ (p : List Entry). with_call (class_index p o) (text_index p n) d p) (e2 ∙ ap (with_text n) e1))
+
+-- ---- a text that was added is there
+
+found_not : (t : Test) (pool : List Entry) (k : ℕ) → found t pool ≡ Some k → index_or_none (found t pool) ≡ 0 → ⊥
+found_not t pool k is h = none-some k (sym (none_found t pool h) ∙ is)
+
+pub text_there : (units : List ℕ) (pool : List Entry) → text_index (with_text units pool) units ≡ 0 → ⊥
+unfolding with_text
+text_there units pool = by (found (is_text units) pool) refl
+  where
+    by : (o : Option ℕ) → found (is_text units) pool ≡ o → index_or_none (found (is_text units) (unless_found o pool (pool ++ Utf8 units ∷ []))) ≡ 0 → ⊥
+    by (Some k) is h = found_not (is_text units) pool k is h
+    by None is h = let l = found_last (is_text units) pool (Utf8 units) refl (same_units units) in found_not (is_text units) (pool ++ Utf8 units ∷ []) l.0 l.1 h

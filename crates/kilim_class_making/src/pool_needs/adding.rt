@@ -1,12 +1,12 @@
 //! Entries that are added at the end.
 
 ghost use Rattle.std.specs.Prelude.{◌≡◌, ◌∷◌, ◌++◌, [], true, Some, None, OnOk};
-ghost use Rattle.kilim_class_making.specs.pool_needs.Adding.{Test, class_behind, found, with_call, with_class, with_member, with_method, with_need, with_needs, with_pair, with_ref, with_text};
+ghost use Rattle.kilim_class_making.specs.pool_needs.Adding.{Test, class_behind, found, text_index, with_call, with_class, with_member, with_method, with_need, with_needs, with_pair, with_ref, with_text};
 
 use crate::pool_needs::lookup::{class_index, pair_index, ref_index, text_index};
 use crate::pool_needs::need::Need;
 use kilim_class_pool::{Entry, Pool};
-use kilim_units::{NoMemory, Units, unmet};
+use kilim_units::{NoMemory, Units};
 
 // Appends an entry for which a search found none. A pool without room for it is answered as want of memory.
 fn append(pool: &mut Pool, entry: Entry) -> Result<(), NoMemory>
@@ -50,16 +50,13 @@ fn with_ref(pool: &mut Pool, class: u16, member: u16) -> Result<(), NoMemory>
 
 // A class whose name is there.
 fn class_behind(pool: &mut Pool, name: &Units) -> Result<(), NoMemory>
+    requires { text_index pool.old name.now ≡ 0 → ⊥ }
     ensures { OnOk result (pool.new ≡ class_behind name.now pool.old) }
 {
     if class_index(pool, name) != 0 {
         return Ok(());
     }
     let text = text_index(pool, name);
-    if text == 0 {
-        // unmet: the text of the name was added before
-        return Err(unmet());
-    }
     append(pool, Entry::Class(text))
 }
 

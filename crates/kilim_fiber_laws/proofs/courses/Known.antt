@@ -3,7 +3,7 @@ use Rattle.std.proofs.Common.{◌≡◌, ◌≢◌, cond, eqb, inl, inr, ℕ, ze
 use Rattle.std.specs.Prelude.{codes, is_some, length}
 use Rattle.std.specs.FinMap.{get}
 use Rattle.std.proofs.lemmas.Bool.{and_parts, false≢true}
-use Rattle.std.proofs.lemmas.Option.{slice_get_within}
+use Rattle.std.proofs.lemmas.Option.{same_Some, slice_get_within}
 use Rattle.kilim_program.specs.declared.class.Class.{Class}
 use Rattle.kilim_program.specs.declared.class.Method.{Method}
 use Rattle.kilim_program.specs.declared.instr.Instr.{Instr}
@@ -11,10 +11,12 @@ use Rattle.kilim_program.specs.declared.names.ClassId.{ClassId}
 use Rattle.kilim_program.specs.declared.names.MethodId.{MethodId}
 use Rattle.kilim_program.specs.declared.ty.Base.{Base}
 use Rattle.kilim_program.specs.declared.ty.Base.TheVariants as base
+use Rattle.kilim_program.specs.declared.ty.Ty.{Ty}
 use Rattle.kilim_program.specs.declared.value.Value.{Value}
 use Rattle.kilim_program.specs.declared.value.Value.TheVariants as value
 use Rattle.kilim_program.specs.declared.verified.VType.{VType}
 use Rattle.kilim_program.specs.declared.verified.VType.TheVariants.{Top, Int, Long, Null, UninitThis, Uninit, Object}
+use Rattle.kilim_program.specs.BuiltIn.{class_type}
 use Rattle.kilim_program.specs.Keeps.{has_base}
 use Rattle.kilim_program.specs.Lengths.{fetched, first_place}
 use Rattle.kilim_program.specs.Names.{class_at, method_at}
@@ -30,7 +32,9 @@ use Rattle.kilim_type_sound.specs.Sound.{CallFits, EffectFits, argument_types}
 use Rattle.kilim_type_sound.specs.Fits.{AreThere, Classes, ContentFits, HeapFits, IsThere, Typing, Wanted, has_objects, has_type, have_types, is_made, refers}
 use Rattle.kilim_run_state.specs.declared.value.Object.{Object as HeapObject}
 use Rattle.kilim_run_machine.specs.Does.{does}
-use Rattle.kilim_run_machine.specs.Effect.{Calls, Effect, Stuck}
+use Rattle.kilim_run_machine.specs.Effect.{Calls, Effect, Stuck, Throws}
+use Rattle.kilim_run_machine.specs.Raising.{is_throwable}
+use Rattle.kilim_run_state.specs.declared.cause.EndCause.{EndCause}
 use Rattle.kilim_program.specs.Members.{named_type}
 use Rattle.kilim_run_state.specs.Machine.{Objects}
 use Rattle.kilim_program.specs.Members.{execute_of, is_concrete}
@@ -183,6 +187,7 @@ module _ (set : Setting) (typing : Typing) (wanted : Wanted) (live : Liveness) (
     receives : (i : Instr) (to : ℕ) → fetch set.program m p ≡ Some (i, to) → Receives set.program i s w.heap
     calls : (i : Instr) (to q : ℕ) (l2 s2 args : List Value) (heap : Objects) (c : MethodId) → fetch set.program m p ≡ Some (i, to) → does set.program (own_of set.program m) i to l s w.heap ≡ Calls c args q l2 s2 heap
         → (callee : Method) × (of : Classes) × (method_at set.program c ≡ Some callee) × (have_types set.program callee of (argument_types callee) args ≡ true)
+    throws : (i : Instr) (to n : ℕ) (c : ClassId) (why : EndCause) → fetch set.program m p ≡ Some (i, to) → does set.program (own_of set.program m) i to l s w.heap ≡ Throws n c why → c.0 < length set.program.classes
 
   standing : (m : MethodId) (p : ℕ) (l s : List Value) (x : Value) (b : List Frame) (w : World) → IsOfCourse set (Run m p l s x b w) → Standing m p l s w
   standing m p l s x b w here =
@@ -214,6 +219,12 @@ module _ (set : Setting) (typing : Typing) (wanted : Wanted) (live : Liveness) (
             let r = effect i to f in
             let called : CallFits set.program top.method typed.of (wanted m) to l w.heap (edges i to) r.0 c args q l2 s2 heap = subst (λ (z : Effect). EffectFits set.program top.method typed.of (wanted m) to l w.heap (edges i to) r.0 z) e r.1 in
             (called.callee, typed.of, called.there, called.arguments);
+        throws = λ i to n c why f e.
+            let r = effect i to f in
+            let thrown : (typed.of n ≡ Some (class_type c.0)) × (is_throwable set.program c ≡ true) × IsThere w.heap (value.Ref n) = subst (λ (z : Effect). EffectFits set.program top.method typed.of (wanted m) to l w.heap (edges i to) r.0 z) e r.1 in
+            let object = thrown.2 in
+            let same : object.0.class ≡ class_type c.0 = same_Some object.0.class (class_type c.0) (sym (fits.heap.classes n object.0 object.1) ∙ thrown.0) in
+            subst (λ (ty : Ty). is_old_base set.program ty.base) same (heap_old set.program typed.of w.heap fits.heap n object.0 object.1);
       }
     where
       stands : (method : Method) → method_at set.program m ≡ Some method → (o : Option (Instr × ℕ)) → fetched method.code method.code_length p ≡ o → is_some o ≡ true → (i : Instr) × (to : ℕ) × (fetch set.program m p ≡ Some (i, to))
@@ -265,5 +276,6 @@ module _ (set : Setting) (typing : Typing) (wanted : Wanted) (live : Liveness) (
           let here = at_all (Run m p l s x b w) f in
           let t = typed_at m p l s x b w here in
           gives_of set live m p l s b w (kept w.task here.0 here.1 (lone_at m p l s b w) here.2 here.3) (fitting_is_fine set typing wanted t.of (lone_at m p l s b w) is t.is (stack_at m p l s x b w here)) (stack_at m p l s x b w here) i to g;
+      throws = λ m p to i l s x b w n c why f e d. (standing m p l s x b w (at_all (Run m p l s x b w) f)).throws i to n c why e d;
       few_frames = λ m p l s x b w f. few_at (Run m p l s x b w) f;
     }

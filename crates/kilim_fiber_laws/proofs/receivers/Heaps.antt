@@ -22,12 +22,13 @@ use Rattle.kilim_program.specs.Names.{class_name, field_of, method_at}
 use Rattle.kilim_program.specs.Program.{Program}
 use Rattle.kilim_run_state.specs.Machine.{Objects}
 use Rattle.kilim_run_machine.specs.Effect.{Effect, Goes, Makes, Opens, Calls, Asks, Returns, Raises, Throws, Ends, Stuck, with_some, on_value, on_values, as_class, as_reference, as_receiver, as_int, as_long, when, wide_or, as_object, at_place, at_index, on_constant}
-use Rattle.kilim_run_machine.specs.Does.{at_unit, calls_method, calls_on, calls_text, cast_fits, chosen, does, element_type, makes_array, array_limit, takes_element, text_answers, throws_object, unit_at, with_element}
-use Rattle.kilim_run_machine.specs.Natives.{is_handed_out}
+use Rattle.kilim_run_machine.specs.Does.{at_unit, calls_method, calls_on, calls_text, cast_fits, chosen, does, element_type, gives_message, keeps_message, makes_array, array_limit, special, takes_element, text_answers, throws_object, unit_at, with_element, with_field}
+use Rattle.kilim_run_machine.specs.Natives.{is_built_in_constructor, is_get_message, is_handed_out, is_message_constructor, is_text_method}
 use Rattle.kilim_run_machine.specs.Raising.{thrown_cause, word_in, words}
 use Rattle.kilim_fiber_laws.specs.receivers.states.Law.{is_exception}
 use Rattle.kilim_run_state.specs.Objects.{new_array}
 use Rattle.kilim_run_state.specs.Shapes.{field_in}
+use Rattle.kilim_program.specs.BuiltIn.{message_field}
 use Rattle.kilim_type_sound.proofs.Maps.{put_other, put_there}
 use Rattle.kilim_fiber_spec.proofs.alike.Effects.{is_simple}
 
@@ -62,18 +63,15 @@ is_store instr.Sastore = true
 is_store (instr.Putfield f) = true
 is_store i = false
 
-abbrev is_invokestatic : Instr → Bool
-is_invokestatic (instr.Invokestatic m) = true
-is_invokestatic i = false
+abbrev is_call : Instr → Bool
+is_call (instr.Invokevirtual m) = true
+is_call (instr.Invokespecial m) = true
+is_call (instr.Invokestatic m) = true
+is_call i = false
 
 r_value : (h : Objects) (s : List Value) (go : Value → List Value → Effect) → reheap h (on_value s go) ≡ on_value s (λ v r. reheap h (go v r))
 r_value h [] go = refl
 r_value h (v ∷ s) go = refl
-
-r_values : (h : Objects) (n : ℕ) (s : List Value) (go : List Value → List Value → Effect) → reheap h (on_values n s go) ≡ on_values n s (λ vs r. reheap h (go vs r))
-r_values h zero s go = refl
-r_values h (suc n) [] go = refl
-r_values h (suc n) (v ∷ s) go = r_values h n s (λ vs below. go (v ∷ vs) below)
 
 r_int : (h : Objects) (v : Value) (go : ℤ → Effect) → reheap h (as_int v go) ≡ as_int v (λ x. reheap h (go x))
 r_int h (Int x) go = refl
@@ -135,14 +133,6 @@ r_class h p (Int x) heap go = refl
 r_class h p (Long x) heap go = refl
 r_class h p (Ref n) heap go = r_some h (get heap n) (λ object. go (Some object.class))
 r_class h p v heap go = refl
-
-r_method : (o : Option Method) (id : MethodId) (args : List Value) (to : ℕ) (l s : List Value) (h : Objects) → reheap h (calls_method o id args to l s h) ≡ calls_method o id args to l s h
-r_method None id args to l s h = refl
-r_method (Some m) id args to l s h = r_if h m.built_in (Asks id args to l s h) (Calls id args to l s h)
-
-r_calls_on : (p : Program) (named : Method) (id : MethodId) (args : List Value) (to : ℕ) (l s : List Value) (h : Objects) (v : Value) (o : Option Ty) → reheap h (calls_on p named id args to l s h v o) ≡ calls_on p named id args to l s h v o
-r_calls_on p named id args to l s h v None = refl
-r_calls_on p named id args to l s h v (Some ty) = r_method (method_at p (chosen p named id ty)) (chosen p named id ty) (v ∷ args) to l s h
 
 r_unit : (h : Objects) (o : Option ℕ) (go : Value → Effect) → reheap h (at_unit o go) ≡ at_unit o (λ v. reheap h (go v))
 r_unit h None go = refl
@@ -410,6 +400,44 @@ module _ (h : Objects) where
   g_class p (Box box) go k = k _
   g_class p Fiber go k = k _
 
+  g_values : (n : ℕ) (s : List Value) (go : List Value → List Value → Effect) → ((vs r : List Value) → KeepsHeap (go vs r)) → KeepsHeap (on_values n s go)
+  g_values zero s go k = k [] s
+  g_values (suc n) [] go k = tt
+  g_values (suc n) (v ∷ s) go k = g_values n s (λ vs r. go (v ∷ vs) r) (λ vs r. k (v ∷ vs) r)
+
+  g_receiver : (v : Value) (go : Value → Effect) → ((u : Value) → KeepsHeap (go u)) → KeepsHeap (as_receiver v go)
+  g_receiver (Int x) go k = tt
+  g_receiver (Long x) go k = tt
+  g_receiver Null go k = refl
+  g_receiver (Ref n) go k = k (Ref n)
+  g_receiver (Text units) go k = k (Text units)
+  g_receiver (Box box) go k = k (Box box)
+  g_receiver Fiber go k = k Fiber
+
+  -- the message of an exception
+  g_keeps : (args : List Value) (to : ℕ) (l s : List Value) → KeepsHeap (keeps_message args to l s h)
+  g_keeps [] to l s = tt
+  g_keeps (v ∷ []) to l s = tt
+  g_keeps (v ∷ w ∷ []) to l s = g_object v _ (λ n object at. g_some (field_in object.fields message_field) _ (λ old e. put_grows h n object (record object { fields = with_field object.fields message_field w }) at))
+  g_keeps (v ∷ w ∷ x ∷ vs) to l s = tt
+
+  g_gives : (args : List Value) (to : ℕ) (l s : List Value) → KeepsHeap (gives_message args to l s h)
+  g_gives [] to l s = tt
+  g_gives (v ∷ []) to l s = g_object v _ (λ n object at. g_some (field_in object.fields message_field) _ (λ x e. same_grows h h refl))
+  g_gives (v ∷ w ∷ vs) to l s = tt
+
+  -- a method that has a receiver
+  g_method : (o : Option Method) (id : MethodId) (args : List Value) (to : ℕ) (l s : List Value) → KeepsHeap (calls_method o id args to l s h)
+  g_method None id args to l s = tt
+  g_method (Some m) id args to l s = g_if m.built_in _ _ (g_if (is_message_constructor m) _ _ (g_keeps args to l s) (g_if (is_get_message m) _ _ (g_gives args to l s) refl)) refl
+
+  g_calls_on : (p : Program) (named : Method) (id : MethodId) (args : List Value) (to : ℕ) (l s : List Value) (v : Value) (o : Option Ty) → KeepsHeap (calls_on p named id args to l s h v o)
+  g_calls_on p named id args to l s v None = refl
+  g_calls_on p named id args to l s v (Some ty) = g_method (method_at p (chosen p named id ty)) (chosen p named id ty) (v ∷ args) to l s
+
+  g_text : (named : Method) (args : List Value) (to : ℕ) (l s : List Value) (v : Value) → KeepsHeap (calls_text named args to l s h v)
+  g_text named args to l s v = reheaped_keeps (calls_text named args to l s h v) (r_text named args to l s h v)
+
   -- an element is taken out
   g_take : (stack : List Value) (to : ℕ) (l : List Value) → KeepsHeap (takes_element to l stack h)
   g_take stack to l = g_value stack _ (λ i below. g_int i _ (λ j. g_value below _ (λ v rest. g_object v _ (λ n object at. g_index object.elements j _ (λ k old. put_grows h n object (with_element object k Null) at)))))
@@ -419,7 +447,7 @@ module _ (h : Objects) where
   g_element stack now to l = g_value stack _ (λ i below. g_int i _ (λ j. g_value below _ (λ v rest. g_object v _ (λ n object at. g_index object.elements j _ (λ k old. put_grows h n object (now n object k old) at)))))
 
 module _ (P : Program) (own : Method) (l : List Value) (to : ℕ) (s : List Value) (heap : Objects) where
-  others : (i : Instr) → is_simple i ≡ false → is_store i ≡ false → is_invokestatic i ≡ false → reheap heap (does P own i to l s heap) ≡ does P own i to l s heap
+  others : (i : Instr) → is_simple i ≡ false → is_store i ≡ false → is_call i ≡ false → reheap heap (does P own i to l s heap) ≡ does P own i to l s heap
   unfolding does
   others (instr.Iload n) h k j = simp (r_some, r_int)
   others (instr.Lload n) h k j = simp (r_some, r_long)
@@ -434,10 +462,10 @@ module _ (P : Program) (own : Method) (l : List Value) (to : ℕ) (s : List Valu
   others (instr.Checkcast ty) h k j = simp (r_value, r_class, r_if)
   others (instr.Instanceof ty) h k j = simp (r_value, r_class)
   others instr.Athrow h k j = simp (r_value, r_object, r_throws)
-  others (instr.Invokevirtual m) h k j = simp (r_some, r_values, r_value, r_if, r_text, r_class, r_calls_on)
-  others (instr.Invokespecial m) h k j = simp (r_some, r_if, r_values, r_value, r_receiver, r_method)
   others (instr.Putfield f) h k j = absurd (false≢true (sym k))
   others instr.Aastore h k j = absurd (false≢true (sym k))
+  others (instr.Invokevirtual m) h k j = absurd (false≢true (sym j))
+  others (instr.Invokespecial m) h k j = absurd (false≢true (sym j))
   others (instr.Invokestatic m) h k j = absurd (false≢true (sym j))
   others i h k j = absurd (false≢true (sym h))
 
@@ -457,23 +485,30 @@ module _ (P : Program) (own : Method) (l : List Value) (to : ℕ) (s : List Valu
 
   statics : (id : MethodId) → KeepsHeap heap (does P own (instr.Invokestatic id) to l s heap)
   unfolding does
-  statics id = g_some heap (method_at P id) _ (λ m at. g_if heap (is_handed_out P m) _ _ (values (length m.params) s (λ vs r. Asks id (reverse vs) to l r heap) (λ vs r. refl))
-      (g_if heap m.built_in _ _ (g_take heap s to l) (values (length m.params) s (λ vs r. Calls id (reverse vs) to l r heap) (λ vs r. refl))))
-    where
-      values : (n : ℕ) (s : List Value) (go : List Value → List Value → Effect) → ((vs r : List Value) → KeepsHeap heap (go vs r)) → KeepsHeap heap (on_values n s go)
-      values zero s go k = k [] s
-      values (suc n) [] go k = tt
-      values (suc n) (v ∷ s) go k = values n s (λ vs r. go (v ∷ vs) r) (λ vs r. k (v ∷ vs) r)
+  statics id = g_some heap (method_at P id) _ (λ m at. g_if heap (is_handed_out P m) _ _ (g_values heap (length m.params) s (λ vs r. Asks id (reverse vs) to l r heap) (λ vs r. refl))
+      (g_if heap m.built_in _ _ (g_take heap s to l) (g_values heap (length m.params) s (λ vs r. Calls id (reverse vs) to l r heap) (λ vs r. refl))))
+
+  virtuals : (id : MethodId) → KeepsHeap heap (does P own (instr.Invokevirtual id) to l s heap)
+  unfolding does
+  virtuals id = g_some heap (method_at P id) _ (λ m at. g_values heap (length m.params) s _ (λ vs below. g_value heap below _ (λ v rest.
+      g_if heap (is_text_method P m) _ _ (g_text heap m (reverse vs) to l rest v) (g_class heap P v _ (λ o. g_calls_on heap P m id (reverse vs) to l rest v o)))))
+
+  specials : (id : MethodId) → KeepsHeap heap (does P own (instr.Invokespecial id) to l s heap)
+  unfolding does
+  specials id = g_some heap (method_at P id) _ (λ m at. g_if heap (is_built_in_constructor m) _ _ (g_value heap s _ (λ v rest. g_receiver heap v _ (λ u. same_grows heap heap refl)))
+      (g_values heap (length m.params) s _ (λ vs below. g_value heap below _ (λ v rest. g_receiver heap v _ (λ u. g_method heap (method_at P (special P own m id)) (special P own m id) (u ∷ reverse vs) to l rest)))))
 
   pub keeps_heap : (i : Instr) → KeepsHeap heap (does P own i to l s heap)
-  keeps_heap i = by (is_store i) (is_invokestatic i) (is_simple i) refl refl refl
+  keeps_heap i = by (is_store i) (is_call i) (is_simple i) refl refl refl
     where
-      static : (i : Instr) → is_invokestatic i ≡ true → KeepsHeap heap (does P own i to l s heap)
-      static (instr.Invokestatic id) e = statics id
-      static i e = absurd (false≢true e)
+      call : (i : Instr) → is_call i ≡ true → KeepsHeap heap (does P own i to l s heap)
+      call (instr.Invokevirtual id) e = virtuals id
+      call (instr.Invokespecial id) e = specials id
+      call (instr.Invokestatic id) e = statics id
+      call i e = absurd (false≢true e)
 
-      by : (a b c : Bool) → is_store i ≡ a → is_invokestatic i ≡ b → is_simple i ≡ c → KeepsHeap heap (does P own i to l s heap)
+      by : (a b c : Bool) → is_store i ≡ a → is_call i ≡ b → is_simple i ≡ c → KeepsHeap heap (does P own i to l s heap)
       by true b c x y z = stores i x
-      by false true c x y z = static i y
+      by false true c x y z = call i y
       by false false true x y z = reheaped_keeps heap (does P own i to l s heap) (reheaped_simple P own l to s heap i z x)
       by false false false x y z = reheaped_keeps heap (does P own i to l s heap) (others i z x y)

@@ -37,7 +37,7 @@ module _ (set : Setting) (W : Program) (marks : List (List Bool)) (most : ℕ) (
     ap (λ (k : ℕ). WRun c k (entered W c args).locals [] [] (Fiber_at [] (Saved 0 value.Null []) [] false false) w ps) quiet.0,
     record {
       alike = λ k z. ap (λ (ls : List Value). slice_get ls k) (sym same_locals);
-      held = forward.held_false set W marks most Q runs members form facts rows enough c (entered set.program c args).locals (entered W c args).locals (self_of set.program c args) (form c).has_calls quiet.1 (subst (λ (ls : List Value). length (entered set.program c args).locals ≤ length ls) (sym same_locals) (omega arith));
+      held = forward.held_false set W marks most Q runs members form facts rows enough c (entered set.program c args).locals (entered W c args).locals (self_of set.program c args) (form c).has_calls quiet.1 (subst (λ (ls : List Value). length (entered set.program c args).locals ≤ length ls) (sym same_locals) (omega arith)) (λ plain. same_locals);
       stacked = tt;
     },
   )
@@ -53,9 +53,9 @@ module _ (set : Setting) (W : Program) (marks : List (List Bool)) (most : ℕ) (
       same_locals = ap (λ (k : ℕ). slots_of args ++ replicate (k - length (slots_of args)) value.Null) (rows.same_slots c np)
 
   -- `execute` of a started task: a few added instructions lead to a state that both sides share
-  pub execute_begins : (c : MethodId) (n : ℕ) (w : World) (ps : List ℕ) → Takes set W marks form c (value.Ref n ∷ []) (value.Ref n) → (is_pausable set.program c ≡ true → IsThere w.heap (value.Ref n))
+  pub execute_begins : (c : MethodId) (n : ℕ) (w : World) (ps : List ℕ) → Takes set W marks form c (value.Ref n ∷ []) (value.Ref n) → is_pausable set.program c ≡ true → IsThere w.heap (value.Ref n)
       → (t : Both) × (unwoven t ≡ Run c 0 (entered set.program c (value.Ref n ∷ [])).locals [] (value.Ref n) [] w) × Fine set W marks form t
       × (d : ℕ) × (d ≤ longest) × path.To set W marks most Q runs 0 (enter set W marks c (value.Ref n ∷ value.Fiber ∷ []) [] new_fiber w ps) d (woven set W marks form t)
-  execute_begins c n w ps takes self_there =
-      let z = forward.begun set W marks most Q runs members form facts rows enough c (value.Ref n ∷ []) [] 0 value.Null (value.Ref n) w ps takes tt self_there in
+  execute_begins c n w ps takes pauses self_there =
+      let z = forward.begun set W marks most Q runs members form facts rows enough c (value.Ref n ∷ []) [] 0 value.Null (value.Ref n) w ps takes tt pauses self_there in
       (Fw c 0 [] (entered set.program c (value.Ref n ∷ [])).locals z.0 (value.Ref n) [] [] 0 value.Null w ps, refl, z.4, z.1, z.2, z.3)

@@ -20,13 +20,11 @@ use Rattle.kilim_run_machine.specs.Moves.{entered, frame_limit}
 use Rattle.kilim_run_model.specs.State.{Setting}
 use Rattle.kilim_weave_spec.specs.Woven.{member, fiber_slot, pausable_callee}
 use Rattle.kilim_fiber_spec.specs.Acts.{World, Lost, counted, ending, spending, native_does, asks, apart, together, put_waits}
-use Rattle.kilim_fiber_spec.proofs.lone.Left.{behind_over, raises_over}
-use Rattle.kilim_fiber_laws.proofs.simulation.Uncaught.{wbehind_over, wraises_over}
 use Rattle.kilim_run_machine.specs.Raising.{index_at, raised_class}
 use Rattle.kilim_fiber_spec.specs.Thread.{fetch, push, Frame, At, Thread, Run, Stop, step, self_of, found_does, effect_does, calls, own_of, raised_behind}
 use Rattle.kilim_run_machine.specs.Natives.{Down, FiberMember}
 use Rattle.kilim_fiber_spec.specs.Fibers.{Fib, Fiber_at, Saved, empty_record, member_of, without_fiber, before, Woven_state, WRun, Resting, WStop, wstep, weffect, wcalls, wasks, wnatives, wnative, handed_does, gets, getting, yielding, frame, putting, puts_now, waits, waits_on, wraised_behind}
-use Rattle.kilim_fiber_spec.specs.Form.{Facts, Group, Members, longest}
+use Rattle.kilim_fiber_spec.specs.Form.{Facts, Group, Members, is_pausable, longest}
 use Rattle.kilim_fiber_spec.specs.Rows.{handed}
 use Rattle.kilim_fiber_spec.specs.Serves.{Rows, Known, Shape, IsCall, IsNative, IsRaise, IsEnd, IsStuck, is_pausing_native, IsThread, Now, leaf_receiver, resting_heap}
 use Rattle.kilim_fiber_spec.specs.Links.{Link, Lk, u_frames, left_overs, bares, Leaf, Forms, code, w_frames, Holds, AllStand, Good, Goods, Takes, AreReady, Fw, Fine_at, record_of, first_record, next_records}
@@ -40,6 +38,7 @@ use Rattle.kilim_fiber_laws.proofs.simulation.Natural.{Outcome, GoesOn, IsOver, 
 use Rattle.kilim_fiber_laws.proofs.simulation.Unwinds.{count_of, push_low}
 use Rattle.kilim_fiber_laws.proofs.simulation.Forward.{calm, Match, Goes_on}
 use Rattle.kilim_fiber_laws.proofs.simulation.Forward as forward
+use Rattle.kilim_fiber_laws.proofs.simulation.Catching as catching
 use Rattle.kilim_fiber_laws.proofs.simulation.PlainStep.{stack_length}
 use Rattle.kilim_fiber_laws.proofs.simulation.Leaves.{frames_bare}
 use Rattle.kilim_fiber_laws.proofs.simulation.Leaves as leaf
@@ -161,11 +160,11 @@ module _ (set : Setting) (W : Program) (marks : List (List Bool)) (most : ℕ) (
         (members.alone 1 Down refl refl (own_of W m) ((form m).call_at p) wl s w.heap) (members.named 1 Down refl) (let h = high in omega (arith, low, h)) (tt, th))
 
     -- a frame of a pausable method begins
-    enters : (u : Thread) (k : MethodId) (args s2 : List Value) → Takes set W marks form k args (self_of set.program k args) → length s2 ≤ stack_limit set.program m → Q call_state → NextHeld set u
+    enters : (u : Thread) (k : MethodId) (args s2 : List Value) → Takes set W marks form k args (self_of set.program k args) → is_pausable set.program k ≡ true → length s2 ≤ stack_limit set.program m → Q call_state → NextHeld set u
         → u ≡ calls set k args (At m to l s2 x ∷ u_frames links) w
         → wstep set W marks call_state ≡ wcalls set W marks true k (args ++ value.Fiber ∷ []) (frame m up wl s2 ∷ b) f1 w ps
         → M u (suc (suc c)) call_state
-    enters u k args s2 takes few2 here_ok held eu ew = by (nat_lt (suc (length b)) frame_limit) eu2 ew
+    enters u k args s2 takes pauses few2 here_ok held eu ew = by (nat_lt (suc (length b)) frame_limit) eu2 ew
       where
         n : length (At m to l s2 x ∷ u_frames links) ≡ suc (length b)
         n = ap suc (stack_length set W marks form [] links)
@@ -177,7 +176,7 @@ module _ (set : Setting) (W : Program) (marks : List (List Bool)) (most : ℕ) (
             → wstep set W marks call_state ≡ (if a then WRun k 0 (entered W k (args ++ value.Fiber ∷ [])).locals [] (frame m up wl s2 ∷ b) f1 (counted w) ps else ending set w WStop cause.Depth) → M u (suc (suc c)) call_state
         by false eu ew = forward.both_end set W marks most Q runs members form facts rows enough u (suc (suc c)) m ((form m).call_at p) wl (value.Fiber ∷ s) b f1 w w ps cause.Depth (omega (arith, few, enough)) eu ew here_ok
         by true eu ew =
-            let z = forward.begun set W marks most Q runs members form facts rows enough k args (link s2 ∷ links) 0 value.Null (self_of set.program k args) (counted w) ps takes (good s2 few2, fine.stacked) (λ pz. held.self k 0 (entered set.program k args).locals [] (self_of set.program k args) (At m to l s2 x ∷ u_frames links) (counted w) eu pz) in
+            let z = forward.begun set W marks most Q runs members form facts rows enough k args (link s2 ∷ links) 0 value.Null (self_of set.program k args) (counted w) ps takes (good s2 few2, fine.stacked) pauses (held.self k 0 (entered set.program k args).locals [] (self_of set.program k args) (At m to l s2 x ∷ u_frames links) (counted w) eu pauses) in
             let a = z.2 in
             Goes_on (Fw k 0 [] (entered set.program k args).locals z.0 (self_of set.program k args) [] (link s2 ∷ links) 0 value.Null (counted w) ps) eu z.1 (omega (arith, a))
             (path.joins set W marks most Q runs
@@ -195,7 +194,7 @@ module _ (set : Setting) (W : Program) (marks : List (List Bool)) (most : ℕ) (
         ret.0) ret.1
     native_returns u s2 (IsRaised why) eu ew n few2 here_ok held =
         forward.both_end set W marks most Q runs members form facts rows enough u (suc (suc c)) m ((form m).call_at p) wl (value.Fiber ∷ s) b f1 w (counted w) ps why (omega (arith, few, enough))
-        (eu ∙ behind_over set rows.none_catches.0 (At m to l s2 x ∷ u_frames links) w why) (ew ∙ wbehind_over set W marks rows.none_catches.1 (frame m up wl s2 ∷ b) f1 w ps why) here_ok
+        (eu ∙ catching.behind_over set W marks form facts rows.catches m grp.pausable links fine.stacked to l s2 x w why) (ew ∙ catching.wbehind_over set W marks form facts rows.catches m grp.pausable links fine.stacked up wl s2 f1 w ps why) here_ok
     native_returns u s2 (IsOver o) eu ew n few2 here_ok held = forward.both_over set W marks most Q runs members form facts rows enough u (suc (suc c)) m ((form m).call_at p) wl (value.Fiber ∷ s) b f1 w ps o (omega (arith, few, enough)) eu ew here_ok
 
     module _ (typed : Typed (Run m p l s x (u_frames links) w)) (q_ok : (g : Fib) (v : World) (rest : List ℕ) → Now set W marks form (Run m p l s x (u_frames links) w) (Resting g v rest) → Q (Resting g v rest)) where
@@ -309,9 +308,7 @@ module _ (set : Setting) (W : Program) (marks : List (List Bool)) (most : ℕ) (
               → wstep set W marks call_state ≡ waits set W marks (leaf.goes_on set W marks most Q runs members form facts rows enough m up wl s2 b) (leaf.fails_on set W marks most Q runs members form facts rows enough m up wl s2 b) (y ∷ z ∷ []) f1 w pauses → M u (suc (suc c)) call_state
           pauses_by (value.Box box) (value.Ref n) are eu [] ew = now (value.Box box ∷ value.Ref n ∷ []) [] eu ew
           pauses_by (value.Box box) (value.Ref n) are eu (j ∷ rest) ew = waiting box n (shape_of set.program w.heap n) refl are j rest ew
-          pauses_by (value.Box box) value.Null are eu [] ew = now (value.Box box ∷ value.Null ∷ []) [] eu ew
-          pauses_by (value.Box box) value.Null are eu (zero ∷ rest) ew = now (value.Box box ∷ value.Null ∷ []) rest eu ew
-          pauses_by (value.Box box) value.Null are eu (suc j ∷ rest) ew = now (value.Box box ∷ value.Null ∷ []) (suc j ∷ rest) eu ew
+          pauses_by (value.Box box) value.Null are eu pauses ew = now (value.Box box ∷ value.Null ∷ []) pauses eu ew
           pauses_by y z are eu pauses ew = absurd (ok eu)
 
           by : (xs : List Value) → args ≡ xs → u ≡ native_does set w Stop (λ (a : World) (v : Option Value). Run m to l (push v s2) x (u_frames links) a) (raised_behind set (At m to l s2 x ∷ u_frames links) w) native.PutWait xs
@@ -376,7 +373,7 @@ module _ (set : Setting) (W : Program) (marks : List (List Bool)) (most : ℕ) (
       shape_match : (u : Thread) (e : Effect) → does set.program (own_of set.program m) i to l s w.heap ≡ e → u ≢ Stop Lost → nat_le set.limits.steps w.done ≡ false → step set here ≡ u → u ≡ effect_does set e (frame m p l s) x (u_frames links) w
           → wstep set W marks call_state ≡ weffect set W marks true (handed up wl e) (frame m ((form m).call_at p) wl (value.Fiber ∷ s)) b f1 w ps → Shape to l w.heap e → HasRoom set.program e m (bare_frames (u_frames links)) → Q call_state → NextHeld set u → M u (suc (suc c)) call_state
       shape_match u e he ok time es eu ew (IsCall k args s2 d) room here_ok held =
-          enters u k args s2 (known.takes m p to to i l s l s2 args x (u_frames links) w w.heap k typed hf (he ∙ d)) (subst (λ (z : Effect). HasRoom set.program z m (bare_frames (u_frames links))) d room).fits here_ok held
+          enters u k args s2 (known.takes m p to to i l s l s2 args x (u_frames links) w w.heap k typed hf (he ∙ d)) (rows.pauses m p i callee to l s s2 args w.heap k hf hp (known.clean m p to i l s x (u_frames links) w typed hf) (he ∙ d)) (subst (λ (z : Effect). HasRoom set.program z m (bare_frames (u_frames links))) d room).fits here_ok held
           (eu ∙ ap (λ (z : Effect). effect_does set z (frame m p l s) x (u_frames links) w) d) (ew ∙ ap (λ (z : Effect). weffect set W marks true (handed up wl z) (frame m ((form m).call_at p) wl (value.Fiber ∷ s)) b f1 w ps) d)
       shape_match u e he ok time es eu ew (IsNative k args s2 d) room here_ok held = by (native_of set.program k) refl
           (eu ∙ ap (λ (z : Effect). effect_does set z (frame m p l s) x (u_frames links) w) d) (ew ∙ ap (λ (z : Effect). weffect set W marks true (handed up wl z) (frame m ((form m).call_at p) wl (value.Fiber ∷ s)) b f1 w ps) d)
@@ -395,9 +392,9 @@ module _ (set : Setting) (W : Program) (marks : List (List Bool)) (most : ℕ) (
               (subst (λ (z : Effect). HasRoom set.program z m (bare_frames (u_frames links))) d room).fits here_ok held
       shape_match u e he ok time es eu ew (IsRaise why d) room here_ok held =
           forward.both_end set W marks most Q runs members form facts rows enough u (suc (suc c)) m ((form m).call_at p) wl (value.Fiber ∷ s) b f1 w (counted w) ps why (omega (arith, few, enough))
-          (eu ∙ (ap (λ (z : Effect). effect_does set z (frame m p l s) x (u_frames links) w) d ∙ raises_over set rows.none_catches.0 (counted w) why w.next (frame m p l s) x (u_frames links) (raised_class set.program (index_at set.program (frame m p l s)) why)))
+          (eu ∙ (ap (λ (z : Effect). effect_does set z (frame m p l s) x (u_frames links) w) d ∙ catching.raises_over set W marks form facts rows.catches m grp.pausable links fine.stacked p l s x (counted w) w.next why (raised_class set.program (index_at set.program (frame m p l s)) why)))
           (ew ∙ (ap (λ (z : Effect). weffect set W marks true (handed up wl z) (frame m ((form m).call_at p) wl (value.Fiber ∷ s)) b f1 w ps) d
-          ∙ wraises_over set W marks rows.none_catches.1 f1 ps (counted w) why w.next (frame m ((form m).call_at p) wl (value.Fiber ∷ s)) b (raised_class W (index_at W (frame m ((form m).call_at p) wl (value.Fiber ∷ s))) why))) here_ok
+          ∙ catching.wraises_over set W marks form facts rows.catches m grp.pausable links fine.stacked ((form m).call_at p) wl (value.Fiber ∷ s) f1 ps (counted w) w.next why (raised_class W (index_at W (frame m ((form m).call_at p) wl (value.Fiber ∷ s))) why))) here_ok
       shape_match u e he ok time es eu ew (IsEnd cause d) room here_ok held =
           forward.both_end set W marks most Q runs members form facts rows enough u (suc (suc c)) m ((form m).call_at p) wl (value.Fiber ∷ s) b f1 w w ps cause (omega (arith, few, enough))
           (eu ∙ ap (λ (z : Effect). effect_does set z (frame m p l s) x (u_frames links) w) d) (ew ∙ ap (λ (z : Effect). weffect set W marks true (handed up wl z) (frame m ((form m).call_at p) wl (value.Fiber ∷ s)) b f1 w ps) d) here_ok
@@ -420,7 +417,7 @@ module _ (set : Setting) (W : Program) (marks : List (List Bool)) (most : ℕ) (
               runs m ((form m).call_at p) wl (value.Fiber ∷ s) b f1 w ps
               (path.next_room set W marks m ((form m).call_at p) wl (value.Fiber ∷ s) b f1 w ps i up true (handed up wl (does set.program (own_of set.program m) i to l s w.heap)) grp.call
               (rows.hands m p i callee to up l wl s w.heap hf hp (known.old_heap m p l s x (u_frames links) w typed) (known.clean m p to i l s x (u_frames links) w typed hf))
-              (handed_room (does set.program (own_of set.program m) i to l s w.heap) (rows.shapes m i callee to l s w.heap hp)
+              (handed_room (does set.program (own_of set.program m) i to l s w.heap) (rows.shapes m p i callee to l s w.heap hf hp (known.clean m p to i l s x (u_frames links) w typed hf))
               (λ k args s2 d. rows.natives m p i callee to l s s2 args w.heap k hf hp (known.clean m p to i l s x (u_frames links) w typed hf) d) (known.room m p to i l s x (u_frames links) w typed hf) (known.gives m p to i l s x (u_frames links) w typed hf)) (λ on. absurd (false≢true on)))
               (tt, th)
 
@@ -439,4 +436,4 @@ module _ (set : Setting) (W : Program) (marks : List (List Bool)) (most : ℕ) (
               shape_match (step set here) (does set.program (own_of set.program m) i to l s w.heap) refl (known.unstuck here typed) h refl
               (es ∙ ap (λ (t : Bool). if t then ending set w Stop cause.Spent else effect_does set (does set.program (own_of set.program m) i to l s w.heap) (frame m p l s) x (u_frames links) w) h)
               (ex ∙ ap (λ (t : Bool). if t then ending set w WStop cause.Spent else weffect set W marks true (handed up wl (does set.program (own_of set.program m) i to l s w.heap)) (frame m ((form m).call_at p) wl (value.Fiber ∷ s)) b f1 w ps) h)
-              (rows.shapes m i callee to l s w.heap hp) (known.room m p to i l s x (u_frames links) w typed hf) here_ok next_held
+              (rows.shapes m p i callee to l s w.heap hf hp (known.clean m p to i l s x (u_frames links) w typed hf)) (known.room m p to i l s x (u_frames links) w typed hf) here_ok next_held

@@ -88,9 +88,9 @@ module _ (set : Setting) (W : Program) (marks : List (List Bool)) (most : ℕ) (
   held_true m l wl x true e h = h
   held_true m l wl x false e h = absurd (false≢true e)
 
-  pub held_false : (m : MethodId) (l wl : List Value) (x : Value) (b : Bool) → b ≡ false → length l ≤ length wl → Held set W marks form b m l wl x
-  held_false m l wl x true e h = absurd (false≢true (sym e))
-  held_false m l wl x false e h = h
+  pub held_false : (m : MethodId) (l wl : List Value) (x : Value) (b : Bool) → b ≡ false → length l ≤ length wl → (is_pausable set.program m ≡ false → wl ≡ l) → Held set W marks form b m l wl x
+  held_false m l wl x true e h same = absurd (false≢true (sym e))
+  held_false m l wl x false e h same = (h, same)
 
   pub held_holds : (m : MethodId) (l wl : List Value) (x : Value) (b : Bool) → b ≡ true → Held set W marks form b m l wl x → Holds set W marks form m l wl x
   held_holds m l wl x true e h = h
@@ -125,12 +125,12 @@ module _ (set : Setting) (W : Program) (marks : List (List Bool)) (most : ℕ) (
   -- ---- a pausable method begins
 
   pub begun : (c : MethodId) (args : List Value) (links : List Link) (old : ℕ) (was : Value) (y : Value) (w : World) (ps : List ℕ)
-      → Takes set W marks form c args y → Goods set W marks form links → (is_pausable set.program c ≡ true → IsThere w.heap y)
+      → Takes set W marks form c args y → Goods set W marks form links → is_pausable set.program c ≡ true → IsThere w.heap y
       → (wl : List Value) × (d : ℕ) × (d ≤ longest)
       × To 0 (WRun c 0 (entered W c (args ++ value.Fiber ∷ [])).locals [] (w_frames set W marks form links) (Fiber_at (left_overs links) (Saved old was []) [] false false) w ps)
       d (WRun c ((form c).at 0) wl [] (w_frames set W marks form links) (Fiber_at (left_overs links) (Saved old was []) [] false false) w ps)
       × Fine_at set W marks form c 0 (entered set.program c args).locals wl y [] links
-  begun c args links old was y w ps takes goods self_there = by (form c).has_calls refl (facts c).starts
+  begun c args links old was y w ps takes goods pauses self_there = by (form c).has_calls refl (facts c).starts
     where
       old_max : (o : Option Method) → ((a : Method) → o ≡ Some a → a ≡ (form c).method) → slots_in o ≤ (form c).method.max_locals
       old_max None h = omega arith
@@ -144,7 +144,7 @@ module _ (set : Setting) (W : Program) (marks : List (List Bool)) (most : ℕ) (
           let st = prologue.starts set W marks most Q runs members form facts c y (entered W c (args ++ value.Fiber ∷ [])).locals 0 (w_frames set W marks form links) (left_overs links) old was [] [] false false w ps e
           (prologue.entered_fiber W c args (argument_slots (form c).method) takes.slots)
           (λ z. let v = takes.self_first z in prologue.entered_argument W c args 0 (slice_get_within (slots_of args) 0 y v) ∙ v)
-          takes.is_reference (prologue.entered_length W c (args ++ value.Fiber ∷ [])) (self_there ((facts c).calls_pausable e)) in
+          takes.is_reference (prologue.entered_length W c (args ++ value.Fiber ∷ [])) self_there in
           let a1 = st.few in
           let a2 = (facts c).within st.switch st.last _ st.is_switch in
           let s1 = takes.slots in
@@ -179,7 +179,7 @@ module _ (set : Setting) (W : Program) (marks : List (List Bool)) (most : ℕ) (
             record {
               alike = λ k z. let v = (facts c).arguments k z in
                   prologue.entered_plain set.program c args k (omega (arith, v, s1)) ∙ sym (prologue.entered_argument W c args k (omega (arith, v, s1)));
-              held = held_false c (entered set.program c args).locals (entered W c (args ++ value.Fiber ∷ [])).locals y (form c).has_calls e (omega (arith, m1, m2, m3, m4));
+              held = held_false c (entered set.program c args).locals (entered W c (args ++ value.Fiber ∷ [])).locals y (form c).has_calls e (omega (arith, m1, m2, m3, m4)) (λ plain. absurd (false≢true (sym plain ∙ pauses)));
               stacked = goods;
             },
           )

@@ -16,8 +16,6 @@ use Rattle.kilim_run_machine.specs.Natives as native
 use Rattle.kilim_run_machine.specs.Effect.{Asks}
 use Rattle.kilim_run_model.specs.State.{Setting}
 use Rattle.kilim_fiber_spec.specs.Acts.{World, Lost, counted, ending, spending, native_does}
-use Rattle.kilim_fiber_spec.proofs.lone.Left.{behind_over}
-use Rattle.kilim_fiber_laws.proofs.simulation.Uncaught.{wbehind_over}
 use Rattle.kilim_fiber_spec.specs.Thread.{push, Frame, At, Thread, Run, Stop, raised_behind}
 use Rattle.kilim_run_machine.specs.Natives.{FiberMember}
 use Rattle.kilim_fiber_spec.specs.Fibers.{Fib, Fiber_at, Rec, Saved, empty_record, Woven_state, WRun, WStop, wstep, wasks, wnatives, wnative, gets, yields, frame, wraised_behind}
@@ -40,6 +38,7 @@ use Rattle.kilim_fiber_laws.proofs.simulation.Held.{NextHeld, all_there}
 use Rattle.kilim_fiber_laws.proofs.simulation.Rewinds.{again_there}
 use Rattle.kilim_fiber_laws.proofs.simulation.Forward.{calm, Match, Goes_on}
 use Rattle.kilim_fiber_laws.proofs.simulation.Forward as forward
+use Rattle.kilim_fiber_laws.proofs.simulation.Catching as catching
 
 pub frames_bare : (ks : List Link) → u_frames (bares ks) ≡ u_frames ks
 frames_bare [] = refl
@@ -166,8 +165,9 @@ module _ (set : Setting) (W : Program) (marks : List (List Bool)) (most : ℕ) (
             m ((form m).up_at from) wl (push v s) (w_frames set W marks form links) (Fiber_at (Saved old was [] ∷ left_overs links) empty_record [] false false) a rest (omega (arith, few, enough)) ew n q)
             ret.0) ret.1
         by (IsRaised why) eu ew n =
+            let pauses = ((facts m).group from to i callee good.0 good.1).pausable in
             forward.both_end set W marks most Q runs members form facts rows enough u c m ((form m).call_at from) wl stk (w_frames set W marks form links) (Fiber_at (Saved old was [] ∷ left_overs links) r [] re false) w (counted w) ps why (omega (arith, few, enough))
-            (eu ∙ behind_over set rows.none_catches.0 (At m to l s self ∷ u_frames links) w why) (ew ∙ wbehind_over set W marks rows.none_catches.1 (frame m ((form m).up_at from) wl s ∷ w_frames set W marks form links) (Fiber_at (Saved old was [] ∷ left_overs links) r [] re false) w rest why) q
+            (eu ∙ catching.behind_over set W marks form facts rows.catches m pauses links goods to l s self w why) (ew ∙ catching.wbehind_over set W marks form facts rows.catches m pauses links goods ((form m).up_at from) wl s (Fiber_at (Saved old was [] ∷ left_overs links) r [] re false) w rest why) q
         by (IsOver o) eu ew n = forward.both_over set W marks most Q runs members form facts rows enough u c m ((form m).call_at from) wl stk (w_frames set W marks form links) (Fiber_at (Saved old was [] ∷ left_overs links) r [] re false) w ps o (omega (arith, few, enough)) eu ew q
 
     pub to_links : (m : MethodId) (from to : ℕ) (i : Instr) (callee : Method) (s l wl : List Value) (self : Value) (old : ℕ) (was : Value) (links : List Link) → bares (Lk m from to i callee s l wl self old was ∷ links) ≡ sides

@@ -1,11 +1,12 @@
 -- An old instruction that is no pausable call: one case distinction over effects.
-use Rattle.std.proofs.Common.{◌≡◌, ◌≢◌, ℕ, suc, ◌+◌, ◌*◌, ◌≤◌, Bool, true, false, List, [], ◌∷◌, ◌++◌, length, Option, Some, None, refl, sym, ap, subst, ◌∙◌, arith}
+use Rattle.std.proofs.Common.{◌≡◌, ◌≢◌, ℕ, suc, ◌+◌, ◌*◌, ◌<◌, ◌≤◌, Bool, true, false, List, [], ◌∷◌, ◌++◌, length, Option, Some, None, refl, sym, ap, subst, ◌∙◌, arith}
 use Rattle.std.specs.Prelude.{slice_get, nat_lt, if◌then◌else◌, replicate, ◌-◌}
 use Rattle.std.proofs.lemmas.Bool.{false≢true}
 use Rattle.std.specs.FinMap.{insert}
 use Rattle.kilim_run_state.specs.declared.cause.EndCause.{EndCause}
 use Rattle.kilim_run_state.specs.declared.cause.EndCause.TheVariants as cause
 use Rattle.kilim_program.specs.declared.class.Method.{Method}
+use Rattle.kilim_program.specs.declared.names.ClassId.{ClassId}
 use Rattle.kilim_program.specs.declared.names.MethodId.{MethodId}
 use Rattle.kilim_program.specs.declared.value.Value.{Value}
 use Rattle.kilim_program.specs.declared.value.Value.TheVariants as value
@@ -20,10 +21,8 @@ use Rattle.kilim_run_state.specs.Machine.{slots_of}
 use Rattle.kilim_run_machine.specs.Moves.{entered, frame_limit}
 use Rattle.kilim_run_model.specs.State.{Setting}
 use Rattle.kilim_fiber_spec.specs.Acts.{World, Lost, counted, with_heap, ending, native_does, asks, opens_box}
-use Rattle.kilim_fiber_spec.proofs.lone.Left.{behind_over, raises_over, throws_over}
-use Rattle.kilim_fiber_laws.proofs.simulation.Uncaught.{wbehind_over, wraises_over, wthrows_over}
-use Rattle.kilim_run_machine.specs.Raising.{index_at, raised_class}
-use Rattle.kilim_fiber_spec.specs.Thread.{push, At, Thread, Run, Stop, self_of, effect_does, calls, returns, finishes, begins, begins_in, raised_behind}
+use Rattle.kilim_run_machine.specs.Raising.{thrown}
+use Rattle.kilim_fiber_spec.specs.Thread.{push, At, Thread, Run, Stop, self_of, effect_does, calls, returns, finishes, begins, begins_in, left_at, raised_behind}
 use Rattle.kilim_run_machine.specs.Natives.{FiberMember}
 use Rattle.kilim_fiber_spec.specs.Fibers.{Fib, Fiber_at, Saved, member_of, Woven_state, WRun, WStop, wstep, weffect, wcalls, wreturns, wfinishes, wbegins, wbegins_in, wasks, wnatives, wnative, wraised_behind, frame}
 use Rattle.kilim_fiber_spec.specs.Form.{Facts, Starts, Members, longest, is_pausable}
@@ -36,6 +35,8 @@ use Rattle.kilim_fiber_laws.proofs.simulation.Paths as path
 use Rattle.kilim_fiber_laws.proofs.simulation.Natural.{Outcome, GoesOn, IsOver, IsRaised, fold, Counts, native_same, opens_same}
 use Rattle.kilim_fiber_laws.proofs.simulation.Forward.{calm, Match, Goes_on}
 use Rattle.kilim_fiber_laws.proofs.simulation.Forward as forward
+use Rattle.kilim_fiber_laws.proofs.simulation.Catching.{GoesAlike, EndsAlike, CaughtAlike}
+use Rattle.kilim_fiber_laws.proofs.simulation.Catching as catching
 use Rattle.kilim_fiber_laws.proofs.simulation.Unwinds.{push_low}
 use Rattle.kilim_fiber_laws.proofs.simulation.Held.{NextHeld}
 
@@ -89,15 +90,21 @@ module _ (set : Setting) (W : Program) (marks : List (List Bool)) (most : ℕ) (
     on u m2 p2 s2 l2 wl2 x2 ov2 old2 was2 w2 eu ew d fine2 =
         forward.on set W marks most Q runs members form facts rows enough u c m ((form m).at p) wl s b f w ps m2 p2 s2 l2 wl2 x2 ov2 links old was w2 ps room eu ew d fine2 here_ok
 
+    -- what is raised or thrown
+    arrives : (u t : Thread) (v : World) (why : EndCause) (y : Woven_state) → v.done ≡ w.done + 1 → u ≡ t → wstep set W marks here ≡ y → GoesAlike set W marks form facts rows.catches f ps v why links t y → M u c here
+    arrives u t v why y d eu ew (EndsAlike e1 e2) = ends u v why (eu ∙ e1) (ew ∙ e2)
+    arrives u t v why y d eu ew (CaughtAlike m2 q2 s2 l2 wl2 x2 ov2 after e1 e2 same fine2) = on u m2 q2 s2 l2 wl2 x2 ov2 old was after (eu ∙ e1) (ew ∙ e2) (same ∙ d) fine2
+
     -- an outcome of a native, a new mailbox
-    outcome : (v : World) (u : Thread) (q : ℕ) (s2 l2 wl2 : List Value) (o : Outcome)
+    outcome : (v : World) → v.done ≡ w.done → (u : Thread) (q : ℕ) (s2 l2 wl2 : List Value) (o : Outcome)
         → u ≡ fold Stop (λ (a : World) (v : Option Value). Run m q l2 (push v s2) x (u_stack ov links) a) (raised_behind set (At m q l2 s2 x ∷ u_stack ov links) v) o
         → wstep set W marks here ≡ fold WStop (λ (a : World) (v : Option Value). WRun m ((form m).at q) wl2 (push v s2) b f a ps) (wraised_behind set W marks (frame m ((form m).at q) wl2 s2 ∷ b) f v ps) o
         → Counts w o → Fine_at set W marks form m q l2 wl2 x ov links → M u c here
-    outcome v u q s2 l2 wl2 (GoesOn a y) eu ew n fine2 = on u m q (push y s2) l2 wl2 x ov old was a eu ew n fine2
-    outcome v u q s2 l2 wl2 (IsOver o) eu ew n fine2 = forward.both_over set W marks most Q runs members form facts rows enough u c m ((form m).at p) wl s b f w ps o room1 eu ew here_ok
-    outcome v u q s2 l2 wl2 (IsRaised why) eu ew n fine2 =
-        ends u (counted v) why (eu ∙ behind_over set rows.none_catches.0 (At m q l2 s2 x ∷ u_stack ov links) v why) (ew ∙ wbehind_over set W marks rows.none_catches.1 (frame m ((form m).at q) wl2 s2 ∷ b) f v ps why)
+    outcome v same u q s2 l2 wl2 (GoesOn a y) eu ew n fine2 = on u m q (push y s2) l2 wl2 x ov old was a eu ew n fine2
+    outcome v same u q s2 l2 wl2 (IsOver o) eu ew n fine2 = forward.both_over set W marks most Q runs members form facts rows enough u c m ((form m).at p) wl s b f w ps o room1 eu ew here_ok
+    outcome v same u q s2 l2 wl2 (IsRaised why) eu ew n fine2 =
+        arrives u (raised_behind set (At m q l2 s2 x ∷ u_stack ov links) v why) (counted v) why (wraised_behind set W marks (frame m ((form m).at q) wl2 s2 ∷ b) f v ps why) (ap (λ (k : ℕ). k + 1) same) eu ew
+        (catching.behind_raised set W marks form facts rows.catches f ps v why m q l2 wl2 s2 x ov links fine2)
 
     natives : (u : Thread) (o n2 : Option Native) (mem : Option FiberMember) (args : List Value) (q : ℕ) (s2 l2 wl2 : List Value) (heap : Objects)
         → u ≢ Stop Lost → mem ≡ None → n2 ≡ o → ((n : Native) → o ≡ Some n → is_pausing_native n ≡ false)
@@ -109,7 +116,7 @@ module _ (set : Setting) (W : Program) (marks : List (List Bool)) (most : ℕ) (
         let go = λ (f2 : Fib) (a : World) (rest : List ℕ) (v : Option Value). WRun m ((form m).at q) wl2 (push v s2) b f2 a rest in
         let z = native_same set (with_heap w heap) Stop (λ (a : World) (v : Option Value). Run m q l2 (push v s2) x (u_stack ov links) a) (raised_behind set (At m q l2 s2 x ∷ u_stack ov links) (with_heap w heap)) n args in
         let y = native_same set (with_heap w heap) WStop (λ (a : World) (v : Option Value). WRun m ((form m).at q) wl2 (push v s2) b f a ps) (wraised_behind set W marks (frame m ((form m).at q) wl2 s2 ∷ b) f (with_heap w heap) ps) n args in
-        outcome (with_heap w heap) u q s2 l2 wl2 (native_does set (with_heap w heap) IsOver GoesOn IsRaised n args) (eu ∙ z.0)
+        outcome (with_heap w heap) refl u q s2 l2 wl2 (native_does set (with_heap w heap) IsOver GoesOn IsRaised n args) (eu ∙ z.0)
         (ew ∙ ap (λ (k : Option FiberMember). wasks set W marks (λ (f2 : Fib) (a : World) (rest : List ℕ) (v : Option Value). WRun m ((form m).at q) wl2 (push v s2) b f2 a rest) (wraised_behind set W marks (frame m ((form m).at q) wl2 s2 ∷ b)) k n2 args f (with_heap w heap) ps) em
         ∙ ap (λ (k : Option Native). wnatives set W marks (λ (f2 : Fib) (a : World) (rest : List ℕ) (v : Option Value). WRun m ((form m).at q) wl2 (push v s2) b f2 a rest) (wraised_behind set W marks (frame m ((form m).at q) wl2 s2 ∷ b)) k args f (with_heap w heap) ps) en
         ∙ plain_native (λ (f2 : Fib) (a : World) (rest : List ℕ) (v : Option Value). WRun m ((form m).at q) wl2 (push v s2) b f2 a rest) (wraised_behind set W marks (frame m ((form m).at q) wl2 s2 ∷ b)) n args f (with_heap w heap) ps (np n refl) ∙ y.0)
@@ -149,7 +156,7 @@ module _ (set : Setting) (W : Program) (marks : List (List Bool)) (most : ℕ) (
             (ew ∙ ap (λ (k : ℕ). WRun callee k (entered W callee args).locals [] (frame m ((form m).at q) wl2 s2 ∷ b) f (counted (with_heap w heap)) ps) (sym quiet.0)) refl
             (record {
               alike = λ k z. ap (λ (ls : List Value). slice_get ls k) (sym same_locals);
-              held = forward.held_false set W marks most Q runs members form facts rows enough callee (entered set.program callee args).locals (entered W callee args).locals (self_of set.program callee args) (form callee).has_calls quiet.1 (subst (λ (ls : List Value). length (entered set.program callee args).locals ≤ length ls) (sym same_locals) (omega arith));
+              held = forward.held_false set W marks most Q runs members form facts rows enough callee (entered set.program callee args).locals (entered W callee args).locals (self_of set.program callee args) (form callee).has_calls quiet.1 (subst (λ (ls : List Value). length (entered set.program callee args).locals ≤ length ls) (sym same_locals) (omega arith)) (λ plain. same_locals);
               stacked = (np, fine2.alike, fine2.held, fine2.stacked);
             })
 
@@ -176,12 +183,15 @@ module _ (set : Setting) (W : Program) (marks : List (List Bool)) (most : ℕ) (
           ∙ ap (λ (o : Option Method). wbegins_in set W marks k n v (record (counted v) { kept = None }) (Fiber_at [] (Saved old was []) [] false false) ps o) z.1
           ∙ ap (λ (t : Bool). if t then ending set v WStop cause.Done else WRun k 0 (entered W k (value.Ref n ∷ value.Fiber ∷ [])).locals [] [] (Fiber_at [] (Saved old was []) [] false false) (record (counted v) { kept = None }) ps) z.2)
         where
+          pauses : is_pausable set.program k ≡ true
+          pauses = ap (λ (o : Option Method). elim o [ None ↦ false | Some z ↦ z.pausable ]) h ∙ (rows.begins_alike k a e h).3
+
           by_kind : (t : Bool) → u ≡ (if t then ending set v Stop cause.Done else Run k 0 (entered set.program k (value.Ref n ∷ [])).locals [] (value.Ref n) [] (record (counted v) { kept = None }))
               → wstep set W marks (WRun m q wl s [] (Fiber_at [] (Saved old was []) [] false false) w ps) ≡ (if t then ending set v WStop cause.Done else WRun k 0 (entered W k (value.Ref n ∷ value.Fiber ∷ [])).locals [] [] (Fiber_at [] (Saved old was []) [] false false) (record (counted v) { kept = None }) ps)
               → M u c (WRun m q wl s [] (Fiber_at [] (Saved old was []) [] false false) w ps)
           by_kind true eu ew = forward.both_end set W marks most Q runs members form facts rows enough u c m q wl s [] (Fiber_at [] (Saved old was []) [] false false) w v ps cause.Done (omega (arith, few, enough)) eu ew here_ok
           by_kind false eu ew =
-              let z = forward.begun set W marks most Q runs members form facts rows enough k (value.Ref n ∷ []) [] old was (value.Ref n) (record (counted v) { kept = None }) ps (begin_takes k n e) tt (λ pz. held.self k 0 (entered set.program k (value.Ref n ∷ [])).locals [] (value.Ref n) [] (record (counted v) { kept = None }) eu pz) in
+              let z = forward.begun set W marks most Q runs members form facts rows enough k (value.Ref n ∷ []) [] old was (value.Ref n) (record (counted v) { kept = None }) ps (begin_takes k n e) tt pauses (held.self k 0 (entered set.program k (value.Ref n ∷ [])).locals [] (value.Ref n) [] (record (counted v) { kept = None }) eu pauses) in
               let a = z.2 in
               Goes_on (Fw k 0 [] (entered set.program k (value.Ref n ∷ [])).locals z.0 (value.Ref n) [] [] old was (record (counted v) { kept = None }) ps) eu z.1 (omega (arith, a))
               (path.joins set W marks most Q runs
@@ -216,36 +226,38 @@ module _ (set : Setting) (W : Program) (marks : List (List Bool)) (most : ℕ) (
 
   pub effects : (begin_takes : (k : MethodId) (n : ℕ) → execute_of set.program set.main ≡ Some k → Takes set W marks form k (value.Ref n ∷ []) (value.Ref n))
       → (c : ℕ) → (few : c ≤ calm) → (m : MethodId) (p : ℕ) (l s wl : List Value) (x : Value) (ov : List PLink) (links : List Link) (old : ℕ) (was : Value) (w : World) (ps : List ℕ) (u : Thread) (e d : Effect)
-      → (fine : Fine_at set W marks form m p l wl x ov links) → Twins set W marks form m l wl x e d → u ≢ Stop Lost → u ≡ effect_does set e (frame m p l s) x (u_stack ov links) w
+      → (fine : Fine_at set W marks form m p l wl x ov links) → Twins set W marks form m l wl x e d → (own : Method) → method_at set.program m ≡ Some own → ((n : ℕ) (k : ClassId) (why : EndCause) → e ≡ Throws n k why → k.0 < length set.program.classes)
+      → u ≢ Stop Lost → u ≡ effect_does set e (frame m p l s) x (u_stack ov links) w
       → (here_ok : Q (WRun m ((form m).at p) wl s (w_stack set W marks form ov links) (Fiber_at (left_overs links) (Saved old was []) [] false false) w ps)) → NextHeld set u
       → wstep set W marks (here c few m p l s wl x ov links old was w ps fine here_ok) ≡ weffect set W marks true d (frame m ((form m).at p) wl s) (w_stack set W marks form ov links) (Fiber_at (left_overs links) (Saved old was []) [] false false) w ps
       → M u c (here c few m p l s wl x ov links old was w ps fine here_ok)
-  effects begin_takes c few m p l s wl x ov links old was w ps u e d fine tw ok eu here_ok held ew = by e tw eu (ew ∙ ap (λ (z : Effect). weffect set W marks true z (frame m ((form m).at p) wl s) (w_stack set W marks form ov links) (Fiber_at (left_overs links) (Saved old was []) [] false false) w ps) tw.same)
+  effects begin_takes c few m p l s wl x ov links old was w ps u e d fine tw own there throws ok eu here_ok held ew = by e tw throws eu (ew ∙ ap (λ (z : Effect). weffect set W marks true z (frame m ((form m).at p) wl s) (w_stack set W marks form ov links) (Fiber_at (left_overs links) (Saved old was []) [] false false) w ps) tw.same)
     where
-      by : (e : Effect) → (tw : Twins set W marks form m l wl x e d) → u ≡ effect_does set e (frame m p l s) x (u_stack ov links) w
+      by : (e : Effect) → (tw : Twins set W marks form m l wl x e d) → ((n : ℕ) (k : ClassId) (why : EndCause) → e ≡ Throws n k why → k.0 < length set.program.classes) → u ≡ effect_does set e (frame m p l s) x (u_stack ov links) w
           → wstep set W marks (here c few m p l s wl x ov links old was w ps fine here_ok) ≡ weffect set W marks true (elsewhere (form m).at tw.locals e) (frame m ((form m).at p) wl s) (w_stack set W marks form ov links) (Fiber_at (left_overs links) (Saved old was []) [] false false) w ps
           → M u c (here c few m p l s wl x ov links old was w ps fine here_ok)
-      by (Goes q l2 s2 heap) tw eu ew =
+      by (Goes q l2 s2 heap) tw throws eu ew =
           on c few m p l s wl x ov links old was w ps fine here_ok u m q s2 l2 tw.locals x ov old was (counted (with_heap w heap)) eu ew refl (record { alike = tw.alike q l2 refl; held = tw.held q l2 refl; stacked = fine.stacked })
-      by (Makes object q l2 s2 heap) tw eu ew =
+      by (Makes object q l2 s2 heap) tw throws eu ew =
           on c few m p l s wl x ov links old was w ps fine here_ok u m q (value.Ref w.next ∷ s2) l2 tw.locals x ov old was (record (counted (with_heap w heap)) { heap = insert heap w.next object; next = w.next + 1 }) eu ew refl (record { alike = tw.alike q l2 refl; held = tw.held q l2 refl; stacked = fine.stacked })
-      by (Opens q l2 s2 heap) tw eu ew =
+      by (Opens q l2 s2 heap) tw throws eu ew =
           let w2 = with_heap w heap in
           let z = opens_same set w2 Stop (λ (a : World) (v : Option Value). Run m q l2 (push v s2) x (u_stack ov links) a) (raised_behind set (At m q l2 s2 x ∷ u_stack ov links) w2) (counted w2) refl in
           let y = opens_same set w2 WStop (λ (a : World) (v : Option Value). WRun m ((form m).at q) tw.locals (push v s2) (w_stack set W marks form ov links) (Fiber_at (left_overs links) (Saved old was []) [] false false) a ps) (wraised_behind set W marks (frame m ((form m).at q) tw.locals s2 ∷ w_stack set W marks form ov links) (Fiber_at (left_overs links) (Saved old was []) [] false false) w2 ps) (counted w2) refl in
-          outcome c few m p l s wl x ov links old was w ps fine here_ok w2 u q s2 l2 tw.locals (opens_box set w2 IsOver GoesOn (counted w2)) (eu ∙ z.0) (ew ∙ y.0) z.1 (record { alike = tw.alike q l2 refl; held = tw.held q l2 refl; stacked = fine.stacked })
-      by (Calls k args q l2 s2 heap) tw eu ew =
+          outcome c few m p l s wl x ov links old was w ps fine here_ok w2 refl u q s2 l2 tw.locals (opens_box set w2 IsOver GoesOn (counted w2)) (eu ∙ z.0) (ew ∙ y.0) z.1 (record { alike = tw.alike q l2 refl; held = tw.held q l2 refl; stacked = fine.stacked })
+      by (Calls k args q l2 s2 heap) tw throws eu ew =
           plain_calls c few m p l s wl x ov links old was w ps fine here_ok u k args q s2 l2 tw.locals heap (tw.calls k args q l2 s2 heap refl) eu ew (record { alike = tw.alike q l2 refl; held = tw.held q l2 refl; stacked = fine.stacked })
-      by (Asks k args q l2 s2 heap) tw eu ew =
+      by (Asks k args q l2 s2 heap) tw throws eu ew =
           let n = tw.natives k args q l2 s2 heap refl in
           natives c few m p l s wl x ov links old was w ps fine here_ok u (native_of set.program k) (native_of W k) (member_of W k) args q s2 l2 tw.locals heap ok n.0 (rows.same_natives k n.0) n.1 eu ew (record { alike = tw.alike q l2 refl; held = tw.held q l2 refl; stacked = fine.stacked })
-      by (Returns v heap) tw eu ew = plain_returns begin_takes c few m p l s wl x ov links old was w ps u v heap fine ok eu ew here_ok held
-      by (Throws n k why) tw eu ew =
-          ends c few m p l s wl x ov links old was w ps fine here_ok u (counted w) why (eu ∙ throws_over set rows.none_catches.0 (counted w) why (counted w) k (value.Ref n) (frame m p l s) x (u_stack ov links))
-          (ew ∙ wthrows_over set W marks rows.none_catches.1 (Fiber_at (left_overs links) (Saved old was []) [] false false) ps (counted w) why (counted w) k (value.Ref n) (frame m ((form m).at p) wl s) (w_stack set W marks form ov links))
-      by (Raises why) tw eu ew =
-          ends c few m p l s wl x ov links old was w ps fine here_ok u (counted w) why
-          (eu ∙ raises_over set rows.none_catches.0 (counted w) why w.next (frame m p l s) x (u_stack ov links) (raised_class set.program (index_at set.program (frame m p l s)) why))
-          (ew ∙ wraises_over set W marks rows.none_catches.1 (Fiber_at (left_overs links) (Saved old was []) [] false false) ps (counted w) why w.next (frame m ((form m).at p) wl s) (w_stack set W marks form ov links) (raised_class W (index_at W (frame m ((form m).at p) wl s)) why))
-      by (Ends cause) tw eu ew = ends c few m p l s wl x ov links old was w ps fine here_ok u w cause eu ew
-      by Stuck tw eu ew = absurd (ok eu)
+      by (Returns v heap) tw throws eu ew = plain_returns begin_takes c few m p l s wl x ov links old was w ps u v heap fine ok eu ew here_ok held
+      by (Throws n k why) tw throws eu ew =
+          arrives c few m p l s wl x ov links old was w ps fine here_ok u _ (counted w) why _ refl eu ew
+          (catching.thrown_alike set W marks form facts rows.catches (Fiber_at (left_overs links) (Saved old was []) [] false false) ps (counted w) why links (value.Ref n) (counted w) refl
+          (left_at set.program k (value.Ref n) (frame m p l s) x (u_stack ov links)) (thrown W k (value.Ref n) (frame m ((form m).at p) wl s) (w_stack set W marks form ov links))
+          (catching.thrown_left set W marks form facts rows.catches k (rows.catches.lines k (throws n k why refl)) (value.Ref n) m p l wl s x ov links fine))
+      by (Raises why) tw throws eu ew =
+          arrives c few m p l s wl x ov links old was w ps fine here_ok u _ (counted w) why _ refl eu ew
+          (catching.at_raised set W marks form facts rows.catches (Fiber_at (left_overs links) (Saved old was []) [] false false) ps w why m own there p l wl s x ov links fine)
+      by (Ends cause) tw throws eu ew = ends c few m p l s wl x ov links old was w ps fine here_ok u w cause eu ew
+      by Stuck tw throws eu ew = absurd (ok eu)

@@ -20,11 +20,9 @@ use Rattle.kilim_run_machine.specs.Natives.{Native, native_of}
 use Rattle.kilim_run_machine.specs.Natives as native
 use Rattle.kilim_run_model.specs.State.{Setting}
 use Rattle.kilim_fiber_spec.specs.Acts.{World, PutWaits, Wants, acting, apart, ending, native_does, put_wait_by, put_waits, spending, counted}
-use Rattle.kilim_fiber_spec.proofs.lone.Left.{behind_over}
-use Rattle.kilim_fiber_laws.proofs.simulation.Uncaught.{wbehind_over}
 use Rattle.kilim_fiber_spec.specs.Thread.{push, At, Frame, Thread, Run, Stop, raised_behind}
 use Rattle.kilim_run_machine.specs.Natives.{FiberMember}
-use Rattle.kilim_fiber_spec.specs.Fibers.{Fib, Fiber_at, Rec, Saved, empty_record, Woven_state, WRun, WStop, wstep, wnative, pausing, put_again, puts_again, rewound, waits, waits_again, waits_on, frame}
+use Rattle.kilim_fiber_spec.specs.Fibers.{Fib, Fiber_at, Rec, Saved, empty_record, Woven_state, WRun, WStop, wstep, wnative, pausing, put_again, puts_again, rewound, waits, waits_again, waits_on}
 use Rattle.kilim_fiber_spec.specs.Form.{Facts, Members, longest}
 use Rattle.kilim_fiber_spec.specs.Runs.{stop, idle}
 use Rattle.kilim_fiber_spec.specs.Serves.{Rows}
@@ -40,6 +38,7 @@ use Rattle.kilim_fiber_laws.proofs.simulation.Leaves as leaf
 use Rattle.kilim_fiber_laws.proofs.simulation.Held.{NextHeld}
 use Rattle.kilim_fiber_laws.proofs.simulation.Forward.{calm, Match, Goes_on}
 use Rattle.kilim_fiber_laws.proofs.simulation.Forward as forward
+use Rattle.kilim_fiber_laws.proofs.simulation.Catching as catching
 
 module _ (set : Setting) (W : Program) (marks : List (List Bool)) (most : ℕ) (Q : Woven_state → Type 0)
     (runs : (m : MethodId) (p : ℕ) (l s : List Value) (b : List Activation) (f : Fib) (w : World) (ps : List ℕ) → StepIsKnown set W marks (WRun m p l s b f w ps) → AreThere w.heap s → Q (WRun m p l s b f w ps))
@@ -80,8 +79,9 @@ module _ (set : Setting) (W : Program) (marks : List (List Bool)) (most : ℕ) (
             m ((form m).up_at from) wl (push v s) (w_frames set W marks form links) (Fiber_at (Saved old was [] ∷ left_overs links) empty_record [] false false) a rest (omega (arith, few, enough)) ew (n ∙ ap (λ (k : ℕ). k + 1) (sym same)) q)
             ret.0) ret.1
         by (IsRaised why) eu ew n =
+            let pauses = ((facts m).group from to i callee good.0 good.1).pausable in
             forward.both_end set W marks most Q runs members form facts rows enough u c m ((form m).call_at from) wl stk (w_frames set W marks form links) (Fiber_at (Saved old was [] ∷ left_overs links) r [] re false) z (counted w) ps why (omega (arith, few, enough))
-            (eu ∙ behind_over set rows.none_catches.0 (At m to l s self ∷ u_frames links) w why) (ew ∙ wbehind_over set W marks rows.none_catches.1 (frame m ((form m).up_at from) wl s ∷ w_frames set W marks form links) (Fiber_at (Saved old was [] ∷ left_overs links) r [] re false) w rest why) q
+            (eu ∙ catching.behind_over set W marks form facts rows.catches m pauses links goods to l s self w why) (ew ∙ catching.wbehind_over set W marks form facts rows.catches m pauses links goods ((form m).up_at from) wl s (Fiber_at (Saved old was [] ∷ left_overs links) r [] re false) w rest why) q
         by (IsOver o) eu ew n = forward.both_over set W marks most Q runs members form facts rows enough u c m ((form m).call_at from) wl stk (w_frames set W marks form links) (Fiber_at (Saved old was [] ∷ left_overs links) r [] re false) z ps o (omega (arith, few, enough)) eu ew q
 
   module _ (box : BoxName) (n : ℕ) (shape : List Token) (w : World) (sides : List Link) (has : shape_of set.program w.heap n ≡ Some shape) (kept : w.kept ≡ None) (time : nat_le set.limits.steps w.done ≡ false) where

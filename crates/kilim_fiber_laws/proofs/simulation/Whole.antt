@@ -7,6 +7,7 @@ use Rattle.kilim_program.specs.declared.class.Method.{Method}
 use Rattle.kilim_program.specs.declared.instr.Instr.{Instr}
 use Rattle.kilim_program.specs.declared.names.MethodId.{MethodId}
 use Rattle.kilim_program.specs.declared.value.Value.{Value}
+use Rattle.kilim_program.specs.Names.{method_at}
 use Rattle.kilim_program.specs.Program.{Program}
 use Rattle.kilim_run_machine.specs.Effect.{Effect, Goes, Makes, Opens, Calls, Asks, Returns, Raises, Throws, Ends, Stuck}
 use Rattle.kilim_run_state.specs.Machine.{Activation, Objects}
@@ -16,7 +17,7 @@ use Rattle.kilim_run_rows.specs.Outcome.{is_stuck}
 use Rattle.kilim_run_model.specs.State.{Setting}
 use Rattle.kilim_weave_spec.specs.Woven.{pausable_callee, moved_instr}
 use Rattle.kilim_fiber_spec.specs.Acts.{World, Over, ending, spending}
-use Rattle.kilim_fiber_spec.specs.Thread.{fetch, Thread, Run, Stop, step, found_does, effect_does, own_of}
+use Rattle.kilim_fiber_spec.specs.Thread.{fetch, code_in, Thread, Run, Stop, step, found_does, effect_does, own_of}
 use Rattle.kilim_fiber_spec.specs.Fibers.{Fib, Fiber_at, Saved, Woven_state, WRun, Resting, WStop, wstep, weffect, member_of, frame}
 use Rattle.kilim_fiber_spec.specs.Rows.{elsewhere}
 use Rattle.kilim_fiber_spec.specs.Form.{Facts, Stays, Members, longest}
@@ -52,6 +53,17 @@ module _ (set : Setting) (W : Program) (marks : List (List Bool)) (most : ℕ) (
   callers [] [] r = tt
   callers [] (Lk m from to i callee s l wl x old was ∷ ks) r = let h = (facts m).as_high in omega (arith, r, h)
   callers (Pk m to s l wl x ∷ ov) ks r = let h = (facts m).as_high in omega (arith, r, h)
+
+  -- the method in which an instruction stands
+  there_of : (m : MethodId) (p : ℕ) (found : Instr × ℕ) → fetch set.program m p ≡ Some found → (a : Method) × (method_at set.program m ≡ Some a)
+  there_of m p found = by (method_at set.program m) refl
+    where
+      none : None ≡ Some found → ⊥
+      none e = cc
+
+      by : (o : Option Method) → method_at set.program m ≡ o → code_in o p ≡ Some found → (a : Method) × (method_at set.program m ≡ Some a)
+      by None e h = absurd (none h)
+      by (Some a) e h = (a, e)
 
   no_member : (k : FiberMember) → None ≡ Some k → ⊥
   no_member k e = cc
@@ -131,7 +143,9 @@ module _ (set : Setting) (W : Program) (marks : List (List Bool)) (most : ℕ) (
           let eu = es ∙ ap (λ (t : Bool). if t then ending set w Stop cause.Spent else effect_does set (does set.program (own_of set.program m) i to l s w.heap) (frame m p l s) x (u_stack ov links) w) h in
           let ew = ex ∙ ap (λ (t : Bool). if t then ending set w WStop cause.Spent else weffect set W marks true (does W (own_of W m) (moved_instr (form m).at i) st.next wl s w.heap) (frame m ((form m).at p) wl s) b f w ps) h in
           let ok = known.unstuck (Run m p l s x (u_stack ov links) w) typed in
-          plain.effects set W marks most Q runs members form facts rows enough known.begins c few m p l s wl x ov links old was w ps (step set (Run m p l s x (u_stack ov links) w)) (does set.program (own_of set.program m) i to l s w.heap) (does W (own_of W m) (moved_instr (form m).at i) st.next wl s w.heap) fine twins ok eu here_ok next_held ew
+          let own = there_of m p (i, to) hf in
+          plain.effects set W marks most Q runs members form facts rows enough known.begins c few m p l s wl x ov links old was w ps (step set (Run m p l s x (u_stack ov links) w)) (does set.program (own_of set.program m) i to l s w.heap) (does W (own_of W m) (moved_instr (form m).at i) st.next wl s w.heap) fine twins
+          own.0 own.1 (λ n k why e. known.throws m p to i l s x (u_stack ov links) w n k why typed hf e) ok eu here_ok next_held ew
 
   pub matched : (t : Both) (c : ℕ) → c ≤ calm → Fine set W marks form t → Typed (unwoven t) → ((g : Fib) (v : World) (rest : List ℕ) → Now set W marks form (unwoven t) (Resting g v rest) → Q (Resting g v rest)) → M (step set (unwoven t)) c (woven set W marks form t)
   matched (Fw m p s l wl x ov links old was w ps) c few fine typed q_ok =

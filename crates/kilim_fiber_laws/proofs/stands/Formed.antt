@@ -246,6 +246,7 @@ module _ (set : Setting) (W : Program) (counted : List (List Bool)) (keeps : Kee
       group = λ p to i callee h n. absurd (no_found (i, to) (sym (ap (λ (o : Option Method). code_in o p) none) ∙ h));
       starts = refl;
       calls_pausable = λ h. absurd (false≢true h);
+      unmoved = λ h p. refl;
       reads_shown = λ p to k i h r. absurd (no_found (i, to) (sym (ap (λ (o : Option Method). code_in o p) none) ∙ h));
       flows = λ p to q k i h a s. absurd (no_found (i, to) (sym (ap (λ (o : Option Method). code_in o p) none) ∙ h));
       arguments = λ k h. absurd (nothing_top k h);
@@ -320,6 +321,7 @@ module _ (set : Setting) (W : Program) (counted : List (List Bool)) (keeps : Kee
         group = λ p to i callee h n. absurd (no_callee callee (sym (none_at P m.code m.code_length p to i none (fetch_is id m at p (i, to) h)) ∙ n));
         starts = refl;
         calls_pausable = λ h. absurd (false≢true h);
+        unmoved = λ h p. refl;
         reads_shown = λ p to k i h r. let f = fetch_is id m at p (i, to) h in ap not (live.typed_reads P keeps m (typing_of P m) (well (has_found m.code m.code_length p (i, to) f)) p to k i f r);
         flows = λ p to q k i h a s. let f = fetch_is id m at p (i, to) h in
             flowed p k i (live.typed_flows P keeps m (typing_of P m) (well (has_found m.code m.code_length p (i, to) f)) p to q k i f a (live.flips (is_top (peek (typing_of P m q).locals k)) s));
@@ -432,6 +434,7 @@ module _ (set : Setting) (W : Program) (counted : List (List Bool)) (keeps : Kee
             };
         starts = placed.starts P W C id m (typing_of P m) lv new block at ends laid;
         calls_pausable = λ h. ap (λ (o : Option Method). elim o [ None ↦ false | Some z ↦ z.pausable ]) at ∙ pausable;
+        unmoved = λ h p. absurd (false≢true (sym h));
         reads_shown = λ p to k i h r. live.reads_shown P keeps m (typing_of P m) typed_well lv is_live p to k i (fetch_is id m at p (i, to) h) r;
         flows = λ p to q k i h a s. live.flows P keeps m (typing_of P m) typed_well lv is_live p to q k i (fetch_is id m at p (i, to) h) a s;
         arguments = first_entry;

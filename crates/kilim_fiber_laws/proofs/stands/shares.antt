@@ -2,4 +2,5 @@ pub mod Names
 pub mod Bodies
 pub mod Fibers
 pub mod Called
+pub mod Catching
 pub mod Together

@@ -30,19 +30,22 @@ use Rattle.kilim_run_model.specs.Kept.{given}
 use Rattle.kilim_run_model.specs.kin.Kin.{Names, IsKin, AreKin, FramesKin, MaybeKin, NameKin, ObjectsKin, Alike, AreHeld, IsThere, StandsIn, MoveKin}
 use Rattle.kilim_run_model.proofs.kin.Kins.{kin_entered, kin_push, kin_result, frames_up, name_up}
 use Rattle.kilim_run_model.proofs.kin.Renamed.{renamed, number_of, are_is}
-use Rattle.kilim_run_model.proofs.kin.Rows.{rows_kin}
+use Rattle.kilim_run_model.proofs.kin.Rows.{new_kin, rows_kin}
+use Rattle.kilim_run_model.proofs.kin.Thrown.{index_same, thrown_kin, unwound_kin}
+use Rattle.kilim_run_state.specs.Objects.{new_object}
+use Rattle.kilim_run_machine.specs.Raising.{index_at, other_index, raised_class, thrown, unwound}
+use Rattle.kilim_program.specs.declared.names.ClassId.{ClassId}
 use Rattle.kilim_run_model.proofs.kin.Moving.{moves_kin}
 use Rattle.kilim_run_model.specs.kin.trees.TreeKin.{IsWholeTree}
 use Rattle.kilim_run_model.proofs.kin.trees.Shaped.{shape_kin}
 use Rattle.kilim_run_model.proofs.one_heap.Nexts.{printed_same}
 use Rattle.kilim_fiber_spec.specs.fiber_kin.Mine.{all_mine}
-use Rattle.kilim_fiber_spec.specs.fiber_kin.Acts.{is_making}
 use Rattle.kilim_fiber_spec.proofs.fiber_kin.Added.{added, added_new, added_old, added_bound, alike_made}
 use Rattle.kilim_fiber_spec.proofs.fiber_kin.Nexts.{again}
 use Rattle.kilim_fiber_spec.specs.Fibers.{Fib, Fiber_at, Rec, Saved, executes_on, first_receiver, is_pausing, is_rewinding, member_does, one_if, pausing, place_while, raised, rewound, wfetch}
 use Rattle.kilim_fiber_laws.specs.woven_kin.Standing.{Standing}
-use Rattle.kilim_fiber_laws.specs.woven_kin.Nexts.{Next, Goes, Gets, Rests, Ends, Stands, counted, ticked, with_result, put_next, message_next, start_next, print_next, arg_next, paused_at, taken_at, get_next, yield_next, native_next, asks_next, opens_next, begun_in, begun_with, begins_next, finish_next, stood, next_by, spent_or, found_next, resumes_next, next_in, next_of, put_wait_next, wait_next, bound_next, PutsAgain, first_wait, putw_next, wait_again, waiting_at}
-use Rattle.kilim_fiber_laws.specs.woven_kin.Alike.{RecordKin, RecordsKin, FibersKin, IsLike, Like, NextLike, GivesWhole, IsWholeAt, IsWhole, makes_at, is_end, HasFree, spends, ApartKin}
+use Rattle.kilim_fiber_laws.specs.woven_kin.Nexts.{raised as table_raised, raises, thrown_to, with_new, Next, Goes, Gets, Rests, Ends, Stands, counted, ticked, with_result, put_next, message_next, start_next, print_next, arg_next, paused_at, taken_at, get_next, yield_next, native_next, asks_next, opens_next, begun_in, begun_with, begins_next, finish_next, stood, next_by, spent_or, found_next, resumes_next, next_in, next_of, put_wait_next, wait_next, bound_next, PutsAgain, first_wait, putw_next, wait_again, waiting_at}
+use Rattle.kilim_fiber_laws.specs.woven_kin.Alike.{RecordKin, RecordsKin, FibersKin, IsLike, Like, NextLike, GivesWhole, IsWholeAt, IsWhole, HasFree, TakesName, spends, ApartKin}
 use Rattle.kilim_fiber_laws.proofs.woven_kin.Records.{fibers_up, rewinding_same, pausing_same, rewound_kin, pausing_kin, resumed_kin, receiver_kin}
 
 -- ---- the frames with which a method begins
@@ -209,6 +212,62 @@ module _ (set : Setting) (W : Program) (of : Names) (t : ℕ) (a b : Standing) (
   spent_kin : (counts : Bool) (x y : Next) → (counts && nat_le set.limits.steps a.done ≡ false → Fits x y) → Fits (spent_or set counts a.done x) (spent_or set counts b.done y)
   spent_kin counts x y e = subst (λ (n : ℕ). Fits (spent_or set counts a.done x) (spent_or set counts n y)) kin.done (spent_with (counts && nat_le set.limits.steps a.done) x y e)
 
+  -- its next name is free where it takes it
+  abbrev Free : Next → Type 0
+  Free y = TakesName b.next y → get b.heap b.next ≡ None
+
+  free_spent : (counts : Bool) (y : Next) → Free (spent_or set counts b.done y) → counts && nat_le set.limits.steps a.done ≡ false → Free y
+  free_spent counts y free left takes =
+      free (subst (λ (n : ℕ). TakesName b.next (spent_or set counts n y)) kin.done (subst (λ (z : Bool). TakesName b.next (cond z (Ends cause.Spent) y)) (sym left) takes))
+
+  -- ---- exceptions
+
+  abbrev more : Names
+  more = added of a.next b.next
+
+  more_frames : (fs gs : List Activation) → FramesKin of fs gs → FramesKin more fs gs
+  more_frames fs gs e = frames_up of more (added_old of a.next b.next kin.below) fs gs e
+
+  made_like : (c : ClassId) (us ws : List Activation) → FramesKin more us ws → get b.heap b.next ≡ None → Like (record (with_new a (new_object W c)) { frames = us }) (record (with_new b (new_object W c)) { frames = ws })
+  made_like c us ws frames free =
+      let up = added_old of a.next b.next kin.below in
+      record {
+        of = more;
+        is = record {
+          frames = frames;
+          fiber = fibers_up of more up a.fiber b.fiber kin.fiber;
+          heaps = alike_made of a.next b.next kin.below a.heap b.heap kin.heaps free (new_object W c) (new_object W c) (new_kin W of c);
+          done = kin.done;
+          boxes = kin.boxes;
+          kept = name_up of more up a.kept b.kept kin.kept;
+          aside = kin.aside;
+          below = added_bound of a.next b.next kin.below;
+        };
+      }
+
+  caught_kin : (counts : Bool) (c : ClassId) (why : EndCause) (us ws : List Activation) → FramesKin more us ws → Free (thrown_to (with_new (ticked counts b) (new_object W c)) why ws) →
+      Fits (thrown_to (with_new (ticked counts a) (new_object W c)) why us) (thrown_to (with_new (ticked counts b) (new_object W c)) why ws)
+  caught_kin counts c why [] [] e free = refl
+  caught_kin true c why (u ∷ us) (w ∷ ws) e free = ticked_like true (record (with_new a (new_object W c)) { frames = u ∷ us }) (record (with_new b (new_object W c)) { frames = w ∷ ws }) (made_like c (u ∷ us) (w ∷ ws) e (free refl))
+  caught_kin false c why (u ∷ us) (w ∷ ws) e free = made_like c (u ∷ us) (w ∷ ws) e (free refl)
+  caught_kin counts c why [] (w ∷ ws) e free = absurd e
+  caught_kin counts c why (u ∷ us) [] e free = absurd e
+
+  raises_kin : (counts : Bool) (why : EndCause) (left right : ClassId → List Activation) → ((c : ClassId) → FramesKin more (left c) (right c)) → (o : Option ClassId) → Free (raises W (ticked counts b) why right o) →
+      Fits (raises W (ticked counts a) why left o) (raises W (ticked counts b) why right o)
+  raises_kin counts why left right each None free = refl
+  raises_kin counts why left right each (Some c) free = caught_kin counts c why (left c) (right c) (each c) free
+
+  throws_kin : (counts : Bool) (why : EndCause) (us ws : List Activation) → FramesKin of us ws → Fits (thrown_to (ticked counts a) why us) (thrown_to (ticked counts b) why ws)
+  throws_kin counts why [] [] e = refl
+  throws_kin counts why (u ∷ us) (w ∷ ws) e = by counts
+    where
+      by : (z : Bool) → Like (record (ticked z a) { frames = u ∷ us }) (record (ticked z b) { frames = w ∷ ws })
+      by true = ticked_like true (record a { frames = u ∷ us }) (record b { frames = w ∷ ws }) (record { of = of; is = record { frames = e; fiber = kin.fiber; heaps = kin.heaps; done = kin.done; boxes = kin.boxes; kept = kin.kept; aside = kin.aside; below = kin.below } })
+      by false = record { of = of; is = record { frames = e; fiber = kin.fiber; heaps = kin.heaps; done = kin.done; boxes = kin.boxes; kept = kin.kept; aside = kin.aside; below = kin.below } }
+  throws_kin counts why [] (w ∷ ws) e = absurd e
+  throws_kin counts why (u ∷ us) [] e = absurd e
+
   -- ---- built-in methods
 
   module _ (fs gs : List Activation) (frames : FramesKin of fs gs) where
@@ -236,6 +295,11 @@ module _ (set : Setting) (W : Program) (of : Names) (t : ℕ) (a b : Standing) (
     -- other records, and a result
     also_kin : (f g : Fib) (v w : Option Value) → FibersKin of f g → MaybeKin of v w → Like (record c { fiber = f; frames = push_result v fs }) (record d { fiber = g; frames = push_result w gs })
     also_kin f g v w e k = record { of = of; is = record { frames = kin_result of v w fs gs k frames; fiber = e; heaps = kin.heaps; done = kin.done; boxes = kin.boxes; kept = kin.kept; aside = kin.aside; below = kin.below } }
+
+    raised_kin : (why : EndCause) → Free (table_raised W d why) → AlsoFits (table_raised W c why) (table_raised W d why)
+    raised_kin why free =
+        raises_kin true why (λ k. unwound W k (Ref a.next) fs) (λ k. unwound W k (Ref b.next) gs)
+        (λ k. unwound_kin W k more (Ref a.next) (Ref b.next) (added_new of a.next b.next) fs gs (more_frames fs gs frames)) (raised_class W other_index why) free
 
     put_kin : (box : BoxName) (n x : ℕ) → of n ≡ Some x → IsWholeTree p OfMessage a.heap n → (s : Option (List Token)) → shape_of p a.heap n ≡ s → AlsoFits (put_next c box n s) (put_next d box x s)
     put_kin box n x e whole None is = refl
@@ -266,26 +330,26 @@ module _ (set : Setting) (W : Program) (of : Names) (t : ℕ) (a b : Standing) (
     same_shape root n x e whole = shape_kin p of all_mine 0 b.heap a.heap b.heap kin.heaps n x e whole.intact
 
     message_kin : (box : BoxName) (v : Value) → IsKin of v (renamed of v) → ((root : Root) (n : ℕ) → given (Some native.Put) (Box box ∷ v ∷ []) ≡ Some (root, n) → IsWholeTree p root a.heap n) →
-        AlsoFits (message_next p c box v) (message_next p d box (renamed of v))
-    message_kin box Null e whole = refl
-    message_kin box (Ref n) e whole =
+        Free (message_next p W d box (renamed of v)) → AlsoFits (message_next p W c box v) (message_next p W d box (renamed of v))
+    message_kin box Null e whole free = raised_kin cause.Null free
+    message_kin box (Ref n) e whole free =
         let tree = whole OfMessage n refl in
         subst (λ (z : Option (List Token)). AlsoFits (put_next c box n (shape_of p a.heap n)) (put_next d box (number_of (of n)) z)) (same_shape OfMessage n (number_of (of n)) e tree)
         (put_kin box n (number_of (of n)) e tree (shape_of p a.heap n) refl)
-    message_kin box _ e whole = tt
+    message_kin box _ e whole free = tt
 
     wait_kin : (box : BoxName) (v : Value) → IsKin of v (renamed of v) → ((root : Root) (n : ℕ) → given (Some native.PutWait) (Box box ∷ v ∷ Fiber ∷ []) ≡ Some (root, n) → IsWholeTree p root a.heap n) →
-        AlsoFits (wait_next p c box v) (wait_next p d box (renamed of v))
-    wait_kin box Null e whole = refl
-    wait_kin box (Ref n) e whole =
+        Free (wait_next p W d box (renamed of v)) → AlsoFits (wait_next p W c box v) (wait_next p W d box (renamed of v))
+    wait_kin box Null e whole free = raised_kin cause.Null free
+    wait_kin box (Ref n) e whole free =
         let tree = whole OfMessage n refl in
         subst (λ (z : Option (List Token)). AlsoFits (put_wait_next p c box n (shape_of p a.heap n)) (put_wait_next p d box (number_of (of n)) z)) (same_shape OfMessage n (number_of (of n)) e tree)
         (put_wait_kin box n (number_of (of n)) e tree (shape_of p a.heap n) refl)
-    wait_kin box _ e whole = tt
+    wait_kin box _ e whole free = tt
 
-    first_kin : (v u : Value) → IsKin of u (renamed of u) → ((root : Root) (n : ℕ) → given (Some native.PutWait) (v ∷ u ∷ Fiber ∷ []) ≡ Some (root, n) → IsWholeTree p root a.heap n) → AlsoFits (first_wait p c v u) (first_wait p d (renamed of v) (renamed of u))
-    first_kin (Box box) u e whole = wait_kin box u e whole
-    first_kin v u e whole = tt
+    first_kin : (v u : Value) → IsKin of u (renamed of u) → ((root : Root) (n : ℕ) → given (Some native.PutWait) (v ∷ u ∷ Fiber ∷ []) ≡ Some (root, n) → IsWholeTree p root a.heap n) → Free (first_wait p W d (renamed of v) (renamed of u)) → AlsoFits (first_wait p W c v u) (first_wait p W d (renamed of v) (renamed of u))
+    first_kin (Box box) u e whole free = wait_kin box u e whole free
+    first_kin v u e whole free = tt
 
     -- made again: what stands apart has the same shapes
     again_kin : (v : Value) (ks ms : List Apart) → ApartKin ks ms → AlsoFits (wait_again set c v ks) (wait_again set d (renamed of v) ms)
@@ -297,18 +361,21 @@ module _ (set : Setting) (W : Program) (of : Names) (t : ℕ) (a b : Standing) (
     again_kin (Box box) (k ∷ ks) [] e = absurd e
     again_kin v ks ms e = tt
 
-    putw_kin : (z : Bool) (v u : Value) → IsKin of u (renamed of u) → ((root : Root) (n : ℕ) → given (Some native.PutWait) (v ∷ u ∷ Fiber ∷ []) ≡ Some (root, n) → IsWholeTree p root a.heap n) → AlsoFits (putw_next set z c v u) (putw_next set z d (renamed of v) (renamed of u))
-    putw_kin true v u e whole = again_kin v a.aside b.aside kin.aside
-    putw_kin false v u e whole = spent_kin true (first_wait p c v u) (first_wait p d (renamed of v) (renamed of u)) (λ left. first_kin v u e whole)
+    putw_kin : (z : Bool) (v u : Value) → IsKin of u (renamed of u) → ((root : Root) (n : ℕ) → given (Some native.PutWait) (v ∷ u ∷ Fiber ∷ []) ≡ Some (root, n) → IsWholeTree p root a.heap n) → Free (putw_next set W z d (renamed of v) (renamed of u)) → AlsoFits (putw_next set W z c v u) (putw_next set W z d (renamed of v) (renamed of u))
+    putw_kin true v u e whole free = again_kin v a.aside b.aside kin.aside
+    putw_kin false v u e whole free =
+        spent_kin true (first_wait p W c v u) (first_wait p W d (renamed of v) (renamed of u)) (λ left. first_kin v u e whole (free_spent true (first_wait p W d (renamed of v) (renamed of u)) free left))
 
     waits_kin : (v u : Value) → IsKin of u (renamed of u) → ((root : Root) (n : ℕ) → given (Some native.PutWait) (v ∷ u ∷ Fiber ∷ []) ≡ Some (root, n) → IsWholeTree p root a.heap n) →
-        AlsoFits (putw_next set (is_rewinding a.fiber) c v u) (putw_next set (is_rewinding b.fiber) d (renamed of v) (renamed of u))
-    waits_kin v u e whole = subst (λ (z : Bool). AlsoFits (putw_next set (is_rewinding a.fiber) c v u) (putw_next set z d (renamed of v) (renamed of u))) (rewinding_same of a.fiber b.fiber kin.fiber) (putw_kin (is_rewinding a.fiber) v u e whole)
+        Free (putw_next set W (is_rewinding b.fiber) d (renamed of v) (renamed of u)) → AlsoFits (putw_next set W (is_rewinding a.fiber) c v u) (putw_next set W (is_rewinding b.fiber) d (renamed of v) (renamed of u))
+    waits_kin v u e whole =
+        subst (λ (z : Bool). Free (putw_next set W z d (renamed of v) (renamed of u)) → AlsoFits (putw_next set W (is_rewinding a.fiber) c v u) (putw_next set W z d (renamed of v) (renamed of u))) (rewinding_same of a.fiber b.fiber kin.fiber)
+        (putw_kin (is_rewinding a.fiber) v u e whole)
 
-    bound_kin : (box : BoxName) (i : ℤ) → AlsoFits (bound_next c box i) (bound_next d box i)
-    bound_kin box (pos (suc n)) = (refl, refl, onward)
-    bound_kin box (pos zero) = refl
-    bound_kin box (negsuc n) = refl
+    bound_kin : (box : BoxName) (i : ℤ) → Free (bound_next W d box i) → AlsoFits (bound_next W c box i) (bound_next W d box i)
+    bound_kin box (pos (suc n)) free = (refl, refl, onward)
+    bound_kin box (pos zero) free = raised_kin cause.Size free
+    bound_kin box (negsuc n) free = raised_kin cause.Size free
 
     start_of_kin : (n : ℕ) → of n ≡ Some (number_of (of n)) → IsWholeTree p OfTask a.heap n → AlsoFits (start_next c n (shape_of p a.heap n)) (start_next d (number_of (of n)) (shape_of p b.heap (number_of (of n))))
     start_of_kin n e tree =
@@ -319,9 +386,9 @@ module _ (set : Setting) (W : Program) (of : Names) (t : ℕ) (a b : Standing) (
     print_kin None = tt
     print_kin (Some token) = (refl, onward)
 
-    arg_kin : (o : Option ℤ) → AlsoFits (arg_next c o) (arg_next d o)
-    arg_kin None = refl
-    arg_kin (Some n) = onward_with (Int n) (Int n) refl
+    arg_kin : (o : Option ℤ) → Free (arg_next W d o) → AlsoFits (arg_next W c o) (arg_next W d o)
+    arg_kin None free = raised_kin cause.Index free
+    arg_kin (Some n) free = onward_with (Int n) (Int n) refl
 
     mailbox_kin : (box : BoxName) → AlsoFits (Gets box (paused_at box c) (taken_at c)) (Gets box (paused_at box d) (taken_at d))
     mailbox_kin box = (
@@ -383,98 +450,95 @@ module _ (set : Setting) (W : Program) (of : Names) (t : ℕ) (a b : Standing) (
     member_kin f g e _ _ k = tt
 
     native_kin : (n : Native) (args : List Value) → AreKin of args (map (renamed of) args) → ((root : Root) (i : ℕ) → given (Some n) args ≡ Some (root, i) → IsWholeTree p root a.heap i) →
-        AlsoFits (native_next set c n args) (native_next set d n (map (renamed of) args))
-    native_kin native.Execute (Ref n ∷ Fiber ∷ []) e whole = onward
-    native_kin native.Start (Ref n ∷ []) e whole = start_of_kin n e.0 (whole OfTask n refl)
-    native_kin native.Put (Box box ∷ v ∷ []) e whole = message_kin box v e.1.0 whole
-    native_kin native.PutWait (v ∷ u ∷ Fiber ∷ []) e whole = waits_kin v u e.1.0 whole
-    native_kin native.Bound (Box box ∷ Int i ∷ []) e whole = bound_kin box i
-    native_kin native.Get (v ∷ Fiber ∷ []) e whole = get_kin v
-    native_kin native.Getnb (Box box ∷ []) e whole = (refl, onward)
-    native_kin native.Print (v ∷ []) e whole = subst (λ (z : Option Token). AlsoFits (print_next c (printed v)) (print_next d z)) (printed_same of v) (print_kin (printed v))
-    native_kin native.Yield (Fiber ∷ []) e whole = yield_kin
-    native_kin native.ArgCount [] e whole = onward_with _ _ refl
-    native_kin native.Arg (Int i ∷ []) e whole = arg_kin (arg_at set.limits.args i)
-    native_kin (native.OfFiber member) args e whole = member_kin a.fiber b.fiber kin.fiber member args e
-    native_kin _ _ e whole = tt
+        Free (native_next set W d n (map (renamed of) args)) → AlsoFits (native_next set W c n args) (native_next set W d n (map (renamed of) args))
+    native_kin native.Execute (Ref n ∷ Fiber ∷ []) e whole free = onward
+    native_kin native.Start (Ref n ∷ []) e whole free = start_of_kin n e.0 (whole OfTask n refl)
+    native_kin native.Put (Box box ∷ v ∷ []) e whole free = message_kin box v e.1.0 whole free
+    native_kin native.PutWait (v ∷ u ∷ Fiber ∷ []) e whole free = waits_kin v u e.1.0 whole free
+    native_kin native.Bound (Box box ∷ Int i ∷ []) e whole free = bound_kin box i free
+    native_kin native.Get (v ∷ Fiber ∷ []) e whole free = get_kin v
+    native_kin native.Getnb (Box box ∷ []) e whole free = (refl, onward)
+    native_kin native.Print (v ∷ []) e whole free = subst (λ (z : Option Token). AlsoFits (print_next c (printed v)) (print_next d z)) (printed_same of v) (print_kin (printed v))
+    native_kin native.Yield (Fiber ∷ []) e whole free = yield_kin
+    native_kin native.ArgCount [] e whole free = onward_with _ _ refl
+    native_kin native.Arg (Int i ∷ []) e whole free = arg_kin (arg_at set.limits.args i) free
+    native_kin (native.OfFiber member) args e whole free = member_kin a.fiber b.fiber kin.fiber member args e
+    native_kin _ _ e whole free = tt
 
     asks_kin : (n : Option Native) (args brgs : List Value) → AreKin of args brgs → ((root : Root) (i : ℕ) → given n args ≡ Some (root, i) → IsWholeTree p root a.heap i) →
-        AlsoFits (asks_next set c args n) (asks_next set d brgs n)
-    asks_kin None args brgs e whole = tt
-    asks_kin (Some n) args brgs e whole =
+        Free (asks_next set W d brgs n) → AlsoFits (asks_next set W c args n) (asks_next set W d brgs n)
+    asks_kin None args brgs e whole free = tt
+    asks_kin (Some n) args brgs e whole free =
         let is = are_is of args brgs e in
-        subst (λ (z : List Value). AlsoFits (native_next set c n args) (native_next set d n z)) is
-        (native_kin n args (subst (λ (z : List Value). AreKin of args z) (sym is) e) whole)
+        subst (λ (z : List Value). Free (native_next set W d n z) → AlsoFits (native_next set W c n args) (native_next set W d n z)) is
+        (native_kin n args (subst (λ (z : List Value). AreKin of args z) (sym is) e) whole) free
 
   -- ---- all moves
 
   -- the heaps are those of before
-  here : (f g : Objects → Next) (h k : Objects) → h ≡ a.heap → k ≡ b.heap → Fits (f a.heap) (g b.heap) → Fits (f h) (g k)
-  here f g h k e d w = subst (λ (z : Objects). Fits (f h) (g z)) (sym d) (subst (λ (z : Objects). Fits (f z) (g b.heap)) (sym e) w)
+  here : (f g : Objects → Next) (h k : Objects) → h ≡ a.heap → k ≡ b.heap → (Free (g b.heap) → Fits (f a.heap) (g b.heap)) → Free (g k) → Fits (f h) (g k)
+  here f g h k e d w = subst (λ (z : Objects). Free (g z) → Fits (f h) (g z)) (sym d) (subst (λ (z : Objects). Free (g b.heap) → Fits (f z) (g b.heap)) (sym e) w)
 
-  abbrev by : Bool → Standing → Move → Next
-  by counts l m = next_by set W t counts l m
+  module _ (top other : Activation) (tops others : List Activation) (frames : FramesKin of (top ∷ tops) (other ∷ others)) where
+    abbrev left : Bool → Move → Next
+    left counts m = next_by set W t counts a top tops m
 
-  move_kin : (good : ℕ → Type 0) (counts : Bool) (v w : Move) → MoveKin good of all_mine 0 a.heap b.heap v w → GivesWhole p W v → (is_making w ≡ true → get b.heap b.next ≡ None) → Fits (by counts a v) (by counts b w)
-  move_kin good counts (move.Runs x fs h) (move.Runs y gs k) e whole free = runs_kin counts h k fs gs e.1 e.2
-  move_kin good counts (move.Makes o fs h) (move.Makes q gs k) e whole free = here (λ z. by counts a (move.Makes o fs z)) (λ z. by counts b (move.Makes q gs z)) h k e.2 e.3 (makes_kin counts o q fs gs (free refl) e.0 e.1)
-  move_kin good counts (move.Opens fs h) (move.Opens gs k) e whole free = here (λ z. by counts a (move.Opens fs z)) (λ z. by counts b (move.Opens gs z)) h k e.1 e.2 (opens_kin counts fs gs e.0)
-  move_kin good counts (move.Asks m args fs h) (move.Asks n brgs gs k) e whole free =
-      here (λ z. by counts a (move.Asks m args fs z)) (λ z. by counts b (move.Asks n brgs gs z)) h k e.3 e.4
-      (subst (λ (z : MethodId). Fits (by counts a (move.Asks m args fs a.heap)) (by counts b (move.Asks z brgs gs b.heap))) e.0
-      (asks_kin fs gs e.2 (native_of W m) args brgs e.1 (λ root i d. subst (λ (z : Objects). IsWholeTree p root z i) e.3 (whole root i d))))
-  move_kin good counts (move.Returns h) (move.Returns k) e whole free = here (λ z. by counts a (move.Returns z)) (λ z. by counts b (move.Returns z)) h k e.0 e.1 (finish_kin a.kept b.kept kin.kept)
-  move_kin good counts (move.Raises x) (move.Raises y) e whole free = e
-  move_kin good counts (move.Throws n c x) (move.Throws z d y) e whole free = e.cause
-  move_kin good counts (move.Ends x) (move.Ends y) e whole free = e
-  move_kin good counts move.Stuck w e whole free = tt
-  move_kin good counts _ _ e whole free = absurd e
+    abbrev right : Bool → Move → Next
+    right counts m = next_by set W t counts b other others m
 
-  -- ---- counted or not
+    -- what makes an object takes a name
+    makes_free : (counts : Bool) (o q : Object) (fs gs : List Activation) → ObjectsKin of o q → FramesKin of fs gs → Free (right counts (move.Makes q gs b.heap)) → Fits (left counts (move.Makes o fs a.heap)) (right counts (move.Makes q gs b.heap))
+    makes_free true o q fs gs objects e free = makes_kin true o q fs gs (free refl) objects e
+    makes_free false o q fs gs objects e free = makes_kin false o q fs gs (free refl) objects e
 
-  -- what makes an object goes on
-  making_goes : (counts : Bool) (w : Move) → is_making w ≡ true → is_end (by counts b w) ≡ false
-  making_goes counts (move.Makes q gs k) e = refl
-  making_goes counts (move.Runs y gs k) e = absurd (cc)
-  making_goes counts (move.Opens gs k) e = absurd (cc)
-  making_goes counts (move.Asks n brgs gs k) e = absurd (cc)
-  making_goes counts (move.Returns k) e = absurd (cc)
-  making_goes counts (move.Raises y) e = absurd (cc)
-  making_goes counts (move.Throws object class y) e = absurd (cc)
-  making_goes counts (move.Ends y) e = absurd (cc)
-  making_goes counts move.Stuck e = absurd (cc)
+    raised_by : (counts : Bool) (x : EndCause) → Free (right counts (move.Raises x)) → Fits (left counts (move.Raises x)) (right counts (move.Raises x))
+    raised_by counts x =
+        subst (λ (n : List ℕ). Free (raises W (ticked counts b) x (λ k. thrown W k (Ref b.next) other others) (raised_class W n x)) → Fits (left counts (move.Raises x)) (raises W (ticked counts b) x (λ k. thrown W k (Ref b.next) other others) (raised_class W n x))) (index_same W top other frames.0 frames.1)
+        (raises_kin counts x (λ k. thrown W k (Ref a.next) top tops) (λ k. thrown W k (Ref b.next) other others)
+        (λ k. thrown_kin W k more (Ref a.next) (Ref b.next) (added_new of a.next b.next) top other tops others (more_frames (top ∷ tops) (other ∷ others) frames)) (raised_class W (index_at W top) x))
 
-  abbrev Frees : Bool → ℕ → Move → Type 0
-  Frees counts done w = is_end (spent_or set counts done (by counts b w)) ≡ false → is_making w ≡ true → get b.heap b.next ≡ None
+    move_kin : (good : ℕ → Type 0) (counts : Bool) (v w : Move) → MoveKin good of all_mine 0 a.heap b.heap v w → GivesWhole p W v → Free (right counts w) → Fits (left counts v) (right counts w)
+    move_kin good counts (move.Runs x fs h) (move.Runs y gs k) e whole free = runs_kin counts h k fs gs e.1 e.2
+    move_kin good counts (move.Makes o fs h) (move.Makes q gs k) e whole free = here (λ z. left counts (move.Makes o fs z)) (λ z. right counts (move.Makes q gs z)) h k e.2 e.3 (makes_free counts o q fs gs e.0 e.1) free
+    move_kin good counts (move.Opens fs h) (move.Opens gs k) e whole free = here (λ z. left counts (move.Opens fs z)) (λ z. right counts (move.Opens gs z)) h k e.1 e.2 (λ f. opens_kin counts fs gs e.0) free
+    move_kin good counts (move.Asks m args fs h) (move.Asks n brgs gs k) e whole free =
+        here (λ z. left counts (move.Asks m args fs z)) (λ z. right counts (move.Asks n brgs gs z)) h k e.3 e.4
+        (subst (λ (z : MethodId). Free (right counts (move.Asks z brgs gs b.heap)) → Fits (left counts (move.Asks m args fs a.heap)) (right counts (move.Asks z brgs gs b.heap))) e.0
+        (asks_kin fs gs e.2 (native_of W m) args brgs e.1 (λ root i d. subst (λ (z : Objects). IsWholeTree p root z i) e.3 (whole root i d)))) free
+    move_kin good counts (move.Returns h) (move.Returns k) e whole free = here (λ z. left counts (move.Returns z)) (λ z. right counts (move.Returns z)) h k e.0 e.1 (λ f. finish_kin a.kept b.kept kin.kept) free
+    move_kin good counts (move.Raises x) (move.Raises y) e whole free = subst (λ (z : EndCause). Free (right counts (move.Raises z)) → Fits (left counts (move.Raises x)) (right counts (move.Raises z))) e (raised_by counts x) free
+    move_kin good counts (move.Throws n c x) (move.Throws z d y) e whole free =
+        subst (λ (why : EndCause). Fits (left counts (move.Throws n c x)) (right counts (move.Throws z d why))) e.cause
+        (subst (λ (k : ClassId). Fits (left counts (move.Throws n c x)) (right counts (move.Throws z k x))) e.class
+        (throws_kin counts x (thrown W c (Ref n) top tops) (thrown W c (Ref z) other others) (thrown_kin W c of (Ref n) (Ref z) e.object top other tops others frames)))
+    move_kin good counts (move.Ends x) (move.Ends y) e whole free = e
+    move_kin good counts move.Stuck w e whole free = tt
+    move_kin good counts _ _ e whole free = absurd e
 
-  free_at : (counts : Bool) (w : Move) → Frees counts a.done w → counts && nat_le set.limits.steps a.done ≡ false → is_making w ≡ true → get b.heap b.next ≡ None
-  free_at counts w free left e = free (ap (λ (z : Bool). is_end (cond z (Ends cause.Spent) (by counts b w))) left ∙ making_goes counts w e) e
+    counted_kin : (counts : Bool) → (counts && nat_le set.limits.steps a.done ≡ false → AreHeld (IsThere a.heap) top.stack × GivesWhole p W (moves W top tops a.heap)) → Free (spent_or set counts b.done (right counts (moves W other others b.heap))) →
+        Fits (spent_or set counts a.done (left counts (moves W top tops a.heap))) (spent_or set counts b.done (right counts (moves W other others b.heap)))
+    counted_kin counts whole free =
+        let w : Move = moves W other others b.heap in
+        spent_kin counts (left counts (moves W top tops a.heap)) (right counts w) (λ some.
+        move_kin (StandsIn a.heap top.stack) counts (moves W top tops a.heap) w (moves_kin W of all_mine 0 a.heap b.heap kin.heaps (rows_kin W) top other (whole some).0 tops others frames) (whole some).1
+        (free_spent counts (right counts w) free some))
 
-  counted_kin : (counts : Bool) (top other : Activation) (fs gs : List Activation) → FramesKin of (top ∷ fs) (other ∷ gs) → (counts && nat_le set.limits.steps a.done ≡ false → AreHeld (IsThere a.heap) top.stack × GivesWhole p W (moves W top fs a.heap)) → Frees counts b.done (moves W other gs b.heap) →
-      Fits (spent_or set counts a.done (by counts a (moves W top fs a.heap))) (spent_or set counts b.done (by counts b (moves W other gs b.heap)))
-  counted_kin counts top other fs gs e whole free =
-      let w : Move = moves W other gs b.heap in
-      spent_kin counts (by counts a (moves W top fs a.heap)) (by counts b w) (λ left.
-      move_kin (StandsIn a.heap top.stack) counts (moves W top fs a.heap) w (moves_kin W of all_mine 0 a.heap b.heap kin.heaps (rows_kin W) top other (whole left).0 fs gs e) (whole left).1
-      (free_at counts w (subst (λ (n : ℕ). Frees counts n w) (sym kin.done) free) left))
-
-  found_kin : (top other : Activation) (fs gs : List Activation) → FramesKin of (top ∷ fs) (other ∷ gs) → (found : Option (Instr × ℕ × Bool)) → (spends set found a ≡ false → AreHeld (IsThere a.heap) top.stack × GivesWhole p W (moves W top fs a.heap)) →
-      (is_end (found_next set W t b other gs found) ≡ false → is_making (moves W other gs b.heap) ≡ true → get b.heap b.next ≡ None) → Fits (found_next set W t a top fs found) (found_next set W t b other gs found)
-  found_kin top other fs gs e None whole free = tt
-  found_kin top other fs gs e (Some found) whole free =
-      let same : found.2 && not (is_rewinding a.fiber) ≡ found.2 && not (is_rewinding b.fiber) = ap (λ (z : Bool). found.2 && not z) (rewinding_same of a.fiber b.fiber kin.fiber) in
-      let counts : Bool = found.2 && not (is_rewinding a.fiber) in
-      subst (λ (z : Bool). Fits (spent_or set counts a.done (by counts a (moves W top fs a.heap))) (spent_or set z b.done (by z b (moves W other gs b.heap)))) same
-      (counted_kin counts top other fs gs e whole (subst (λ (z : Bool). Frees z b.done (moves W other gs b.heap)) (sym same) free))
+    found_kin : (found : Option (Instr × ℕ × Bool)) → (spends set found a ≡ false → AreHeld (IsThere a.heap) top.stack × GivesWhole p W (moves W top tops a.heap)) → Free (found_next set W t b other others found) →
+        Fits (found_next set W t a top tops found) (found_next set W t b other others found)
+    found_kin None whole free = tt
+    found_kin (Some found) whole free =
+        let same : found.2 && not (is_rewinding a.fiber) ≡ found.2 && not (is_rewinding b.fiber) = ap (λ (z : Bool). found.2 && not z) (rewinding_same of a.fiber b.fiber kin.fiber) in
+        let counts : Bool = found.2 && not (is_rewinding a.fiber) in
+        subst (λ (z : Bool). Free (spent_or set z b.done (right z (moves W other others b.heap))) → Fits (spent_or set counts a.done (left counts (moves W top tops a.heap))) (spent_or set z b.done (right z (moves W other others b.heap)))) same
+        (counted_kin counts whole) free
 
   module _ (marks : List (List Bool)) where
-    pub frames_kin : (fs gs : List Activation) → FramesKin of fs gs → IsWholeAt set W marks a fs → (is_end (next_in set W marks t b gs) ≡ false → makes_at W b.heap gs ≡ true → get b.heap b.next ≡ None) → NextLike p (next_in set W marks t a fs) (next_in set W marks t b gs)
+    pub frames_kin : (fs gs : List Activation) → FramesKin of fs gs → IsWholeAt set W marks a fs → Free (next_in set W marks t b gs) → NextLike p (next_in set W marks t a fs) (next_in set W marks t b gs)
     frames_kin [] [] e whole free = resumes_from (first_receiver a.fiber) (first_receiver b.fiber) (receiver_kin of a.fiber b.fiber kin.fiber)
     frames_kin (top ∷ fs) (other ∷ gs) e whole free =
         let same : wfetch set W marks top.method top.place ≡ wfetch set W marks other.method other.place = λ i. wfetch set W marks (e.0 i) (e.1 i) in
-        subst (λ (z : Option (Instr × ℕ × Bool)). NextLike p (found_next set W t a top fs (wfetch set W marks top.method top.place)) (found_next set W t b other gs z)) same
-        (found_kin top other fs gs e (wfetch set W marks top.method top.place) whole
-        (subst (λ (z : Option (Instr × ℕ × Bool)). is_end (found_next set W t b other gs z) ≡ false → is_making (moves W other gs b.heap) ≡ true → get b.heap b.next ≡ None) (sym same) free))
+        subst (λ (z : Option (Instr × ℕ × Bool)). Free (found_next set W t b other gs z) → NextLike p (found_next set W t a top fs (wfetch set W marks top.method top.place)) (found_next set W t b other gs z)) same
+        (found_kin top other fs gs e (wfetch set W marks top.method top.place) whole) free
     frames_kin _ _ e whole free = absurd e
 
 pub next_kin : (set : Setting) (W : Program) (marks : List (List Bool)) (t : ℕ) (l f : Standing) → Like l f → IsWhole set W marks l → HasFree set W marks t f → NextLike set.program (next_of set W marks t l) (next_of set W marks t f)

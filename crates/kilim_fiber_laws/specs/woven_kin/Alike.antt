@@ -1,12 +1,12 @@
 -- A woven fiber as the machine has it, with names that are never used again, and one whose heap has places that are used again: the
 -- same but for the names of objects.
-use Rattle.std.specs.Prelude.{◌≡◌, ◌<◌, ℕ, Bool, true, false, List, ◌∷◌, Some, None, [], Option, not, ◌&&◌, nat_le}
+use Rattle.std.specs.Prelude.{◌+◌, ◌≡◌, ◌<◌, ℕ, Bool, false, List, ◌∷◌, Some, None, [], Option, not, ◌&&◌, nat_le}
 use Rattle.kilim_fiber_spec.specs.Acts.{Apart}
 use Rattle.std.specs.FinMap.{get}
 use Rattle.kilim_program.specs.declared.instr.Instr.{Instr}
 use Rattle.kilim_program.specs.Program.{Program}
 use Rattle.kilim_run_state.specs.declared.value.Token.{Token}
-use Rattle.kilim_run_state.specs.Machine.{Objects, Activation}
+use Rattle.kilim_run_state.specs.Machine.{Activation}
 use Rattle.kilim_run_machine.specs.Moves.{Move, moves}
 use Rattle.kilim_run_machine.specs.Moves as move
 use Rattle.kilim_run_machine.specs.Natives.{native_of}
@@ -17,7 +17,6 @@ use Rattle.kilim_run_model.specs.State.{Setting}
 use Rattle.kilim_run_model.specs.kin.Kin.{Names, IsKin, AreKin, FramesKin, NameKin, Alike, AreHeld, IsThere}
 use Rattle.kilim_run_model.specs.kin.trees.TreeKin.{IsWholeTree}
 use Rattle.kilim_fiber_spec.specs.fiber_kin.Mine.{all_mine}
-use Rattle.kilim_fiber_spec.specs.fiber_kin.Acts.{is_making}
 use Rattle.kilim_fiber_spec.specs.Fibers.{Fib, Fiber_at, Rec, Saved, is_rewinding, wfetch}
 use Rattle.kilim_fiber_laws.specs.woven_kin.Standing.{Standing}
 use Rattle.kilim_fiber_laws.specs.woven_kin.Nexts.{Next, Goes, Puts, PutWaits, Bounds, Gets, Probes, Starts, Prints, Rests, Ends, Stands, next_of, PutsAgain}
@@ -109,14 +108,11 @@ IsWhole set W marks l = IsWholeAt set W marks l l.frames
 
 -- ---- and of the second
 
-abbrev pub makes_at : Program → Objects → List Activation → Bool
-makes_at W h [] = false
-makes_at W h (top ∷ below) = is_making (moves W top below h)
+-- it goes on under a further name
+abbrev pub TakesName : ℕ → Next → Type 0
+TakesName n (Goes after) = after.next ≡ n + 1
+TakesName n x = ⊥
 
-abbrev pub is_end : Next → Bool
-is_end (Ends cause) = true
-is_end x = false
-
--- where it goes on and its next instruction makes an object, its next name is free
+-- where it does, that name was free
 abbrev pub HasFree : Setting → Program → List (List Bool) → ℕ → Standing → Type 0
-HasFree set W marks t f = is_end (next_of set W marks t f) ≡ false → makes_at W f.heap f.frames ≡ true → get f.heap f.next ≡ None
+HasFree set W marks t f = TakesName f.next (next_of set W marks t f) → get f.heap f.next ≡ None

@@ -164,11 +164,14 @@ module _ (set : Setting) (W : Program) (marks : List (List Bool)) (form : Forms 
     hands = λ m p i callee to nx l wl s heap hf hp old clean.
         hands P W (own_of P m) (own_of W m) fiber pauses.shares i callee to nx l wl s heap hp
         (λ id a b e ha hpa hb. pauses.specials m p to id a b (hf ∙ ap (λ (j : Instr). Some (j, to)) e) ha hpa hb) old clean;
-    shapes = λ m i callee to l s heap hp. shapes P to l heap (own_of P m) pauses.sound i callee s hp;
+    shapes = λ m p i callee to l s heap hf hp clean.
+        shapes P W fiber pauses.shares to l heap (own_of P m) (own_of W m) pauses.sound i callee s hp
+        (λ id a b e ha hpa hb. pauses.specials m p to id a b (hf ∙ ap (λ (j : Instr). Some (j, to)) e) ha hpa hb) clean;
     natives = pauses.natives;
     same_natives = pauses.same_natives;
     same_slots = pauses.same_slots;
-    none_catches = pauses.none_catches;
+    pauses = pauses.pauses;
+    catches = pauses.catches;
     begins = pauses.begins;
     begins_alike = pauses.begins_alike;
   }

@@ -9,7 +9,7 @@ use Rattle.kilim_program.specs.declared.value.Value.{Value}
 use Rattle.kilim_program.specs.declared.value.Value.TheVariants as value
 use Rattle.kilim_program.specs.Program.{Program}
 use Rattle.kilim_run_state.specs.Machine.{Objects}
-use Rattle.kilim_program.specs.Names.{method_at}
+use Rattle.kilim_program.specs.Names.{class_name, method_at}
 use Rattle.kilim_run_machine.specs.Effect.{Effect, Asks, Calls, with_some, on_value, on_values, as_class}
 use Rattle.kilim_program.specs.Members.{named_type}
 use Rattle.kilim_run_machine.specs.Does.{does, calls_method, calls_on, calls_text, takes_element}
@@ -18,11 +18,13 @@ use Rattle.kilim_weave_spec.specs.Woven.{member}
 use Rattle.kilim_run_machine.specs.Natives.{FiberMember, Pc, Down, Up, Save, Place, Restore, Receiver}
 use Rattle.kilim_fiber_spec.specs.alike.Shares.{IsMember, size_of}
 use Rattle.kilim_fiber_spec.specs.Form.{members_in_order, takes_alone, Members}
+use Rattle.kilim_fiber_spec.proofs.alike.Handed.{asks_other, asks_handed}
 
 module _ (W : Program) (own : Method) (fiber : Ty) (fiber_is : named_type W (codes "kilim/Fiber") ≡ Some fiber) (id : MethodId) (nx : ℕ) (l s : List Value) (heap : Objects) where
   calls_is : (size : ℕ) (k : FiberMember) → IsMember W id size k fiber → (args r : List Value) → calls_method (method_at W id) id args nx l r heap ≡ Asks id args nx l r heap
   calls_is size k m args r =
       ap (λ (o : Option Method). calls_method o id args nx l r heap) m.there
+      ∙ ap (λ (d : Effect). if m.method.built_in then d else Calls id args nx l r heap) (asks_other m.method id args nx l r heap (asks_handed (class_name W m.method.owner) m.method m.handed_out))
       ∙ ap (λ (b : Bool). if b then Asks id args nx l r heap else Calls id args nx l r heap) m.built_in
 
   pub alone_does : (k : FiberMember) → IsMember W id 0 k fiber → does W own (instr.Invokevirtual id) nx l (value.Fiber ∷ s) heap ≡ Asks id (value.Fiber ∷ []) nx l s heap

@@ -1,6 +1,6 @@
 -- A pausable call of the woven program does what that of the unwoven one does, with the fiber as its last argument.
 use Rattle.std.proofs.Common.{◌≡◌, ◌≢◌, ℕ, zero, suc, Bool, true, false, List, [], ◌∷◌, ◌++◌, length, Option, Some, None, refl, sym, ap, ◌∙◌, arith}
-use Rattle.std.specs.Prelude.{if◌then◌else◌, reverse, codes}
+use Rattle.std.specs.Prelude.{if◌then◌else◌, ◌||◌, reverse, codes}
 use Rattle.std.specs.FinMap.{get}
 use Rattle.std.proofs.lemmas.List.{reverse-append, length-append}
 use Rattle.kilim_run_state.specs.declared.cause.EndCause.TheVariants as cause
@@ -18,10 +18,11 @@ use Rattle.kilim_program.specs.Names.{method_at}
 use Rattle.kilim_run_machine.specs.Effect.{Effect, Goes, Calls, Asks, Raises, with_some, on_value, on_values, as_receiver, as_class}
 use Rattle.kilim_program.specs.Members.{named_type}
 use Rattle.kilim_run_machine.specs.Does.{does, calls_method, calls_on, calls_text, chosen, special, takes_element}
-use Rattle.kilim_run_machine.specs.Natives.{is_built_in_constructor, is_text_method, is_handed_out}
+use Rattle.kilim_run_machine.specs.Natives.{is_built_in_constructor, is_text_method, is_handed_out, is_message_constructor, is_get_message, is_of_message}
 use Rattle.kilim_weave_spec.specs.Woven.{if_there, pausable_callee}
 use Rattle.kilim_fiber_spec.specs.alike.Shares.{SharesCalls, Specials}
 use Rattle.kilim_fiber_spec.specs.Rows.{handed, OldHeap, is_old_base, Clean, IsClean, below_arguments, class_if, value_class}
+use Rattle.kilim_fiber_spec.proofs.alike.Handed.{asks_other}
 
 none_is : {A : Type 0} (a : A) → None ≡ Some a → ⊥
 none_is a e = cc
@@ -60,11 +61,14 @@ module _ (P W : Program) (fiber : Ty) (shares : SharesCalls P W fiber) (nx to : 
   last vs = reverse-append (Fiber ∷ []) vs
 
   -- the call of a method of P
-  h_calls : (id : MethodId) (a : Method) → method_at P id ≡ Some a → (args s : List Value) → calls_method (method_at W id) id (args ++ Fiber ∷ []) nx wl s heap ≡ handed nx wl (calls_method (method_at P id) id args to l s heap)
-  h_calls id a e args s =
+  h_calls : (id : MethodId) (a : Method) → method_at P id ≡ Some a → is_of_message a ≡ false → (args s : List Value) → calls_method (method_at W id) id (args ++ Fiber ∷ []) nx wl s heap ≡ handed nx wl (calls_method (method_at P id) id args to l s heap)
+  h_calls id a e other args s =
       let z = shares.built_in id a e in
+      let its = ap (λ (t : Bool). t || is_get_message z.0) z.2.1 ∙ ap (λ (t : Bool). is_message_constructor a || t) z.2.2 ∙ other in
       ap (λ (o : Option Method). calls_method o id (args ++ Fiber ∷ []) nx wl s heap) z.1
-      ∙ ap (λ (t : Bool). if t then Asks id (args ++ Fiber ∷ []) nx wl s heap else Calls id (args ++ Fiber ∷ []) nx wl s heap) z.2 ∙ kinds a.built_in
+      ∙ ap (λ (d : Effect). if z.0.built_in then d else Calls id (args ++ Fiber ∷ []) nx wl s heap) (asks_other z.0 id (args ++ Fiber ∷ []) nx wl s heap its)
+      ∙ ap (λ (t : Bool). if t then Asks id (args ++ Fiber ∷ []) nx wl s heap else Calls id (args ++ Fiber ∷ []) nx wl s heap) z.2.0 ∙ kinds a.built_in
+      ∙ ap (λ (d : Effect). handed nx wl (if a.built_in then d else Calls id args to l s heap)) (sym (asks_other a id args to l s heap other))
       ∙ ap (λ (o : Option Method). handed nx wl (calls_method o id args to l s heap)) (sym e)
     where
       kinds : (t : Bool) → (if t then Asks id (args ++ Fiber ∷ []) nx wl s heap else Calls id (args ++ Fiber ∷ []) nx wl s heap) ≡ handed nx wl (if t then Asks id args to l s heap else Calls id args to l s heap)
@@ -142,10 +146,11 @@ hands P W mine its fiber shares (instr.Invokevirtual id) callee to nx l wl s hea
     (λ vs r below c. h_top P W fiber shares nx to l wl heap r _ _ c (λ v rest top ne.
     h_class P W fiber shares nx to l wl heap old v (calls_on P a id (reverse vs) to l rest heap v) (calls_on W b id (reverse (Fiber ∷ vs)) nx wl rest heap v)
     (λ ty is_old class.
-    let q = z.selected ty in
+    let fits = clean.receives a k.1 v rest (below ∙ top) ty class in
+    let q = z.selected ty fits in
     ap (λ (args : List Value). calls_method (method_at W (chosen W b id ty)) (chosen W b id ty) (v ∷ args) nx wl rest heap) (last P W fiber shares nx to l wl heap vs)
-    ∙ ap (λ (t : MethodId). calls_method (method_at W t) t (v ∷ (reverse vs ++ Fiber ∷ [])) nx wl rest heap) (z.agrees ty is_old (clean.receives a k.1 v rest (below ∙ top) ty class))
-    ∙ h_calls P W fiber shares nx to l wl heap (chosen P a id ty) q.0 q.1 (v ∷ reverse vs) rest)
+    ∙ ap (λ (t : MethodId). calls_method (method_at W t) t (v ∷ (reverse vs ++ Fiber ∷ [])) nx wl rest heap) (z.agrees ty is_old fits)
+    ∙ h_calls P W fiber shares nx to l wl heap (chosen P a id ty) q.0 q.1 q.2 (v ∷ reverse vs) rest)
     refl refl ne))
     ∙ ap (λ (t : Bool). handed nx wl (on_values (length a.params) s (λ args below. on_value below (λ receiver rest. if t then calls_text a (reverse args) to l rest heap receiver else as_class P receiver heap (calls_on P a id (reverse args) to l rest heap receiver))))) (sym z.no_text)
     ∙ ap (λ (o : Option Method). handed nx wl (with_some o (λ method. on_values (length method.params) s (λ args below. on_value below (λ receiver rest. if is_text_method P method then calls_text method (reverse args) to l rest heap receiver else as_class P receiver heap (calls_on P method id (reverse args) to l rest heap receiver)))))) (sym k.1)
@@ -170,7 +175,7 @@ hands P W mine its fiber shares (instr.Invokespecial id) callee to nx l wl s hea
     (λ receiver. calls_method (method_at W (special P mine a id)) (special P mine a id) (receiver ∷ reverse (Fiber ∷ vs)) nx wl rest heap)
     (λ u.
     ap (λ (args : List Value). calls_method (method_at W (special P mine a id)) (special P mine a id) (u ∷ args) nx wl rest heap) (last P W fiber shares nx to l wl heap vs)
-    ∙ h_calls P W fiber shares nx to l wl heap (special P mine a id) q.there.0 q.there.1 (u ∷ reverse vs) rest)))
+    ∙ h_calls P W fiber shares nx to l wl heap (special P mine a id) q.there.0 q.there.1 q.there.2 (u ∷ reverse vs) rest)))
     ∙ ap (λ (t : Bool). handed nx wl (if t then on_value s (λ v rest. as_receiver v (λ receiver. Goes to l rest heap)) else on_values (length a.params) s (λ args below. on_value below (λ v rest. as_receiver v (λ receiver. calls_method (method_at P (special P mine a id)) (special P mine a id) (receiver ∷ reverse args) to l rest heap))))) (sym z.plain)
     ∙ ap (λ (o : Option Method). handed nx wl (with_some o (λ method. if is_built_in_constructor method then on_value s (λ v rest. as_receiver v (λ receiver. Goes to l rest heap)) else on_values (length method.params) s (λ args below. on_value below (λ v rest. as_receiver v (λ receiver. calls_method (method_at P (special P mine method id)) (special P mine method id) (receiver ∷ reverse args) to l rest heap)))))) (sym k.1)
 hands P W mine its fiber shares (instr.Invokestatic id) callee to nx l wl s heap hp sp old clean =

@@ -36,9 +36,10 @@ use Rattle.kilim_program.specs.declared.class.Field.{Field}
 use Rattle.kilim_program.specs.declared.names.FieldId.{FieldId}
 use Rattle.kilim_run_machine.specs.Effect.{with_some, on_constant, text_of, when, on_value, as_int, as_receiver, as_object, as_class, at_place, at_index, on_values}
 use Rattle.kilim_program.specs.Members.{named_type}
-use Rattle.kilim_run_machine.specs.Does.{calls_on, calls_method, chosen, special, calls_text, text_answers, unit_at, at_unit, takes_element, cast_fits, is_instance, narrowed_to, narrowed_result, with_field, with_element, bit, element_type}
-use Rattle.kilim_run_machine.specs.Natives.{is_built_in_constructor, is_text_method, is_handed_out}
+use Rattle.kilim_run_machine.specs.Does.{calls_on, calls_method, chosen, special, calls_text, text_answers, unit_at, at_unit, takes_element, keeps_message, gives_message, cast_fits, is_instance, narrowed_to, narrowed_result, with_field, with_element, bit, element_type}
+use Rattle.kilim_run_machine.specs.Natives.{is_built_in_constructor, is_text_method, is_handed_out, is_message_constructor, is_get_message}
 use Rattle.kilim_run_state.specs.Shapes.{field_in}
+use Rattle.kilim_program.specs.BuiltIn.{message_field}
 use Rattle.std.specs.Str.{bytes_eq}
 use Rattle.kilim_program.specs.Lengths.{ends_path}
 use Rattle.kilim_fiber_spec.specs.Rows.{Clean, IsClean, below_arguments, class_if, is_old_base, value_class}
@@ -246,14 +247,51 @@ module _ (P Q : Program) (mine its : Method) (agree : Agree P Q) (at : ℕ → �
   c_if true d1 d2 e1 e2 h k = h
   c_if false d1 d2 e1 e2 h k = k
 
+  keeps_same : (args : List Value) (to : ℕ) (l rest : List Value) → Eq (keeps_message args (at to) wl rest heap) (keeps_message args to l rest heap)
+  keeps_same (v ∷ w ∷ []) to l rest =
+      c_object v (λ n object. with_some (field_in object.fields message_field) (λ old. Goes to l rest (insert heap n (record object { fields = with_field object.fields message_field w }))))
+      (λ n object. with_some (field_in object.fields message_field) (λ old. Goes (at to) wl rest (insert heap n (record object { fields = with_field object.fields message_field w }))))
+      (λ n object. by n object (field_in object.fields message_field))
+    where
+      by : (n : ℕ) (object : Object) (o : Option Value) → Eq (with_some o (λ old. Goes (at to) wl rest (insert heap n (record object { fields = with_field object.fields message_field w })))) (with_some o (λ old. Goes to l rest (insert heap n (record object { fields = with_field object.fields message_field w }))))
+      by n object None = refl
+      by n object (Some was) = refl
+  keeps_same [] to l rest = refl
+  keeps_same (v ∷ []) to l rest = refl
+  keeps_same (v ∷ w ∷ x ∷ vs) to l rest = refl
+
+  gives_same : (args : List Value) (to : ℕ) (l rest : List Value) → Eq (gives_message args (at to) wl rest heap) (gives_message args to l rest heap)
+  gives_same (v ∷ []) to l rest =
+      c_object v (λ n object. with_some (field_in object.fields message_field) (λ w. Goes to l (w ∷ rest) heap)) (λ n object. with_some (field_in object.fields message_field) (λ w. Goes (at to) wl (w ∷ rest) heap))
+      (λ n object. by (field_in object.fields message_field))
+    where
+      by : (o : Option Value) → Eq (with_some o (λ w. Goes (at to) wl (w ∷ rest) heap)) (with_some o (λ w. Goes to l (w ∷ rest) heap))
+      by None = refl
+      by (Some w) = refl
+  gives_same [] to l rest = refl
+  gives_same (v ∷ w ∷ vs) to l rest = refl
+
+  -- of a method that is built in or not, and of the message or not
+  abbrev by_kind : (built_in keeps gives : Bool) → MethodId → List Value → ℕ → List Value → List Value → Effect
+  by_kind built_in keeps gives k args to l rest =
+      if built_in then (if keeps then keeps_message args to l rest heap else (if gives then gives_message args to l rest heap else Asks k args to l rest heap)) else Calls k args to l rest heap
+
+  kind_same : (built_in keeps gives : Bool) (k : MethodId) (args : List Value) (to : ℕ) (l rest : List Value) → Eq (by_kind built_in keeps gives k args (at to) wl rest) (by_kind built_in keeps gives k args to l rest)
+  kind_same true true gives k args to l rest = keeps_same args to l rest
+  kind_same true false true k args to l rest = gives_same args to l rest
+  kind_same true false false k args to l rest = refl
+  kind_same false keeps gives k args to l rest = refl
+
   -- the call of a method of P
   calls_same : (i : Instr) (id : MethodId) (a : Method) → PlainCallee P Q mine its i id a → (k : MethodId) (b : Method) → method_at P k ≡ Some b → (args : List Value) (to : ℕ) (l rest : List Value)
       → calls_method (method_at Q k) k args (at to) wl rest heap ≡ elsewhere at wl (calls_method (method_at P k) k args to l rest heap)
   calls_same i id a pc k b e args to l rest =
       let z = pc.built_in k b e in
       ap (λ (o : Option Method). calls_method o k args (at to) wl rest heap) z.1
-      ∙ ap (λ (t : Bool). if t then Asks k args (at to) wl rest heap else Calls k args (at to) wl rest heap) z.2
-      ∙ sym (e_if at wl b.built_in (Asks k args to l rest heap) (Calls k args to l rest heap))
+      ∙ ap (λ (t : Bool). by_kind t (is_message_constructor z.0) (is_get_message z.0) k args (at to) wl rest) z.2.0
+      ∙ ap (λ (t : Bool). by_kind b.built_in t (is_get_message z.0) k args (at to) wl rest) z.2.1
+      ∙ ap (λ (t : Bool). by_kind b.built_in (is_message_constructor b) t k args (at to) wl rest) z.2.2
+      ∙ kind_same b.built_in (is_message_constructor b) (is_get_message b) k args to l rest
       ∙ ap (λ (o : Option Method). elsewhere at wl (calls_method o k args to l rest heap)) (sym e)
 
   -- the answers of strings

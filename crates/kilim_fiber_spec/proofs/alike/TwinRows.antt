@@ -109,7 +109,7 @@ module _ (set : Setting) (W : Program) (marks : List (List Bool)) (form : Forms 
 
   length_held : (m : MethodId) (b : Bool) (l wl : List Value) (x : Value) → Held set W marks form b m l wl x → length l ≤ length wl
   length_held m true l wl x h = let a = slice_get_within wl (fiber_slot (form m).method) value.Fiber h.fiber in let c = h.within in omega (arith, a, c)
-  length_held m false l wl x h = h
+  length_held m false l wl x h = h.0
 
   held_store : (m : MethodId) (b : Bool) (l wl : List Value) (x : Value) (n : ℕ) (v : Value) → n < length l → Held set W marks form b m l wl x → Held set W marks form b m (slice_set l n v) (slice_set wl n v) x
   held_store m true l wl x n v g h =
@@ -122,7 +122,7 @@ module _ (set : Setting) (W : Program) (marks : List (List Bool)) (form : Forms 
         is_reference = h.is_reference;
         within = omega (arith, e, c);
       }
-  held_store m false l wl x n v g h = let e = length-set l n v in let d = length-set wl n v in omega (arith, e, d, h)
+  held_store m false l wl x n v g h = let e = length-set l n v in let d = length-set wl n v in let few = h.0 in (omega (arith, e, d, few), λ plain. ap (λ (ls : List Value). slice_set ls n v) (h.1 plain))
 
   twins_store : (m : MethodId) (p to : ℕ) (i : Instr) (l wl r : List Value) (x : Value) (heap : Objects) (n : ℕ) (v : Value) (e d : Effect) → fetch set.program m p ≡ Some (i, to)
       → e ≡ Goes to (slice_set l n v) r heap → d ≡ Goes ((form m).at to) (slice_set wl n v) r heap → ((k : ℕ) → sets i k ≡ true → n ≡ k) → Among (edges i to) to → n < length l

@@ -18,15 +18,14 @@ use Rattle.kilim_program.specs.Members.{named_type}
 use Rattle.kilim_run_state.specs.Machine.{Objects}
 use Rattle.kilim_program.specs.Members.{execute_of}
 use Rattle.kilim_run_machine.specs.Moves.{slots_in}
-use Rattle.kilim_run_machine.specs.Raising.{NoTables}
-use Rattle.kilim_run_machine.specs.Natives.{FiberMember, Save, Place, Native, native_of, is_built_in_constructor, is_handed_out, is_text_method}
+use Rattle.kilim_run_machine.specs.Natives.{FiberMember, Save, Place, Native, native_of, is_built_in_constructor, is_handed_out, is_text_method, is_message_constructor, is_get_message, is_of_message}
 use Rattle.kilim_run_state.specs.Objects.{new_object}
 use Rattle.kilim_run_model.specs.State.{Setting}
 use Rattle.kilim_weave_spec.specs.Woven.{pausable_callee}
 use Rattle.kilim_fiber_spec.specs.Fibers.{member_of}
 use Rattle.kilim_fiber_spec.specs.Form.{is_pausable}
 use Rattle.kilim_fiber_spec.specs.Rows.{IsClean, is_old_base}
-use Rattle.kilim_fiber_spec.specs.Serves.{is_pausing_native}
+use Rattle.kilim_fiber_spec.specs.Serves.{CatchesAlike, is_pausing_native}
 use Rattle.kilim_fiber_spec.specs.Thread.{fetch, own_of}
 
 -- what the programs P and Q answer alike
@@ -38,6 +37,10 @@ pub record Agree (P Q : Program) : Type 0 where
   pub same_text : named_type Q (codes "java/lang/String") ≡ named_type P (codes "java/lang/String")
   pub same_box : named_type Q (codes "kilim/Mailbox") ≡ named_type P (codes "kilim/Mailbox")
   pub names : (c : ClassId) → c.0 < length P.classes → class_name Q c ≡ class_name P c
+
+-- two methods that are built in, and that are of the message of an exception, both or neither
+abbrev pub AlikeBuiltIn : Method → Method → Type 0
+AlikeBuiltIn a b = (a.built_in ≡ b.built_in) × (is_message_constructor a ≡ is_message_constructor b) × (is_get_message a ≡ is_get_message b)
 
 -- a method and what it is in both programs
 pub record PlainCallee (P Q : Program) (mine its : Method) (i : Instr) (id : MethodId) (a : Method) : Type 0 where
@@ -51,7 +54,7 @@ pub record PlainCallee (P Q : Program) (mine its : Method) (i : Instr) (id : Met
   -- what is called is a method of P, and built in on both sides or on none
   pub selected : (ty : Ty) → (b : Method) × (method_at P (chosen P a id ty) ≡ Some b)
   pub specials : i ≡ instr.Invokespecial id → (b : Method) × (method_at P (special P mine a id) ≡ Some b)
-  pub built_in : (k : MethodId) (b : Method) → method_at P k ≡ Some b → (c : Method) × (method_at Q k ≡ Some c) × (c.built_in ≡ b.built_in)
+  pub built_in : (k : MethodId) (b : Method) → method_at P k ≡ Some b → (c : Method) × (method_at Q k ≡ Some c) × AlikeBuiltIn c b
 
 -- a pausable method of P and what it is in W
 pub record Changed (P W : Program) (fiber : Ty) (id : MethodId) (a : Method) : Type 0 where
@@ -68,24 +71,24 @@ pub record Changed (P W : Program) (fiber : Ty) (id : MethodId) (a : Method) : T
   pub handed_out : is_handed_out P a ≡ a.built_in
   pub still_handed_out : is_handed_out W method ≡ method.built_in
   pub agrees : (ty : Ty) → is_old_base P ty.base → fits_type P ty (class_type a.owner.0) ≡ true → chosen W method id ty ≡ chosen P a id ty
-  -- what is called is a method of P
-  pub selected : (ty : Ty) → (b : Method) × (method_at P (chosen P a id ty) ≡ Some b)
+  -- what is called is a method of P, and not of the message of an exception
+  pub selected : (ty : Ty) → fits_type P ty (class_type a.owner.0) ≡ true → (b : Method) × (method_at P (chosen P a id ty) ≡ Some b) × (is_of_message b ≡ false)
 
 -- what the two programs share about calls
 pub record SharesCalls (P W : Program) (fiber : Ty) : Type 0 where
   pub changed : (id : MethodId) (a : Method) → method_at P id ≡ Some a → a.pausable ≡ true → Changed P W fiber id a
   -- which methods are built in
-  pub built_in : (id : MethodId) (a : Method) → method_at P id ≡ Some a → (b : Method) × (method_at W id ≡ Some b) × (b.built_in ≡ a.built_in)
+  pub built_in : (id : MethodId) (a : Method) → method_at P id ≡ Some a → (b : Method) × (method_at W id ≡ Some b) × AlikeBuiltIn b a
   -- strings and mailboxes
   pub text : (ty : Ty) → named_type P (codes "java/lang/String") ≡ Some ty → is_old_base P ty.base
   pub box : (ty : Ty) → named_type P (codes "kilim/Mailbox") ≡ Some ty → is_old_base P ty.base
   pub same_text : named_type W (codes "java/lang/String") ≡ named_type P (codes "java/lang/String")
   pub same_box : named_type W (codes "kilim/Mailbox") ≡ named_type P (codes "kilim/Mailbox")
 
--- What `invokespecial` of a pausable method calls: in W that of P.
+-- What `invokespecial` of a pausable method calls: in W that of P, and not of the message of an exception.
 pub record Specials (P W : Program) (mine its : Method) (id : MethodId) (a b : Method) : Type 0 where
   pub agrees : special W its b id ≡ special P mine a id
-  pub there : (c : Method) × (method_at P (special P mine a id) ≡ Some c)
+  pub there : (c : Method) × (method_at P (special P mine a id) ≡ Some c) × (is_of_message c ≡ false)
 
 -- the method that a call names
 abbrev pub named : Instr → Option MethodId
@@ -118,8 +121,10 @@ pub record SharesPauses (set : Setting) (W : Program) (fiber : Ty) : Type 0 wher
   pub natives : (m : MethodId) (p : ℕ) (i : Instr) (callee : Method) (to : ℕ) (l s s2 args : List Value) (heap : Objects) (c : MethodId) → fetch set.program m p ≡ Some (i, to) → pausable_callee set.program i ≡ Some callee → IsClean set.program i s heap → does set.program (own_of set.program m) i to l s heap ≡ Asks c args to l s2 heap
       → (member_of W c ≡ None) × ((n : Native) → native_of set.program c ≡ Some n → is_pausing_native n ≡ true)
   pub same_natives : (c : MethodId) → member_of W c ≡ None → native_of W c ≡ native_of set.program c
+  pub pauses : (m : MethodId) (p : ℕ) (i : Instr) (callee : Method) (to : ℕ) (l s s2 args : List Value) (heap : Objects) (c : MethodId) → fetch set.program m p ≡ Some (i, to) → pausable_callee set.program i ≡ Some callee → IsClean set.program i s heap → does set.program (own_of set.program m) i to l s heap ≡ Calls c args to l s2 heap
+      → is_pausable set.program c ≡ true
   pub same_slots : (c : MethodId) → is_pausable set.program c ≡ false → slots_in (method_at W c) ≡ slots_in (method_at set.program c)
-  pub none_catches : NoTables set.program × NoTables W
+  pub catches : CatchesAlike set.program W
   pub begins : execute_of W set.main ≡ execute_of set.program set.main
   pub begins_alike : (c : MethodId) (a : Method) → execute_of set.program set.main ≡ Some c → method_at set.program c ≡ Some a → (b : Method) × (method_at W c ≡ Some b) × (b.built_in ≡ a.built_in) × (a.pausable ≡ true)
 

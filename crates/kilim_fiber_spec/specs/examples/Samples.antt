@@ -16,7 +16,7 @@ abbrev pub woven_values_program : Program
 woven_values_program = record {
   classes =
       sample_class (codes "A") 6 false (method_id 0 ∷ method_id 1 ∷ [])
-      ∷ record (sample_class (codes "N") 2 true (method_id 2 ∷ [])) { fields = record { 0 = 0 } ∷ [] } ∷ built_in_classes_in Woven 2 3;
+      ∷ record (sample_class (codes "N") 2 true (method_id 2 ∷ [])) { fields = record { 0 = 1 } ∷ [] } ∷ built_in_classes_in Woven 2 3;
   methods = sample_constructor 0 7 ∷ woven_method values_plan ∷ sample_constructor 1 3 ∷ built_in_methods_in Woven 2;
   fields = values.fields;
   form = Woven;

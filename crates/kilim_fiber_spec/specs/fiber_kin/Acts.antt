@@ -1,12 +1,10 @@
 -- A tree that is given away, and one on its way.
-use Rattle.std.specs.Prelude.{◌≡◌, ◌≤◌, ℕ, Bool, true, false, List, Some, None, length}
+use Rattle.std.specs.Prelude.{◌≡◌, ◌≤◌, ℕ, true, List, Some, None, length}
 use Rattle.std.specs.List.{AllByRecursion}
 use Rattle.kilim_program.specs.Program.{Program}
 use Rattle.kilim_run_state.specs.declared.value.Object.{Object}
 use Rattle.kilim_run_state.specs.declared.value.Token.{Token}
 use Rattle.kilim_run_state.specs.Machine.{Objects}
-use Rattle.kilim_run_machine.specs.Moves.{Move}
-use Rattle.kilim_run_machine.specs.Moves as move
 use Rattle.kilim_run_state.specs.Shapes.{tree_limit, shape_of}
 use Rattle.kilim_run_state.specs.Trees.{Root, is_allowed}
 use Rattle.kilim_run_model.specs.Lone.{Lone}
@@ -18,11 +16,6 @@ use Rattle.kilim_run_trees.specs.Walk.{IsTree, AllThere, places}
 use Rattle.kilim_run_trees.specs.Moved.{IsTooLarge, tree_heap}
 use Rattle.kilim_run_trees.specs.Shaping.{Suits}
 use Rattle.kilim_fiber_spec.specs.fiber_kin.Held.{IsLike}
-
--- a move that makes an object
-abbrev pub is_making : Move → Bool
-is_making (move.Makes object frames heap) = true
-is_making m = false
 
 -- Right before a tree is given away: at `n` in the thread's heap, at `m` in the fiber's.
 pub record Giving (p : Program) (root : Root) (n m : ℕ) (shape : List Token) (after f : Lone) : Type 0 where

@@ -1,5 +1,5 @@
 -- What is asked at a mailbox doesn't depend on the heap.
-use Rattle.std.proofs.Common.{◌≡◌, ℕ, zero, suc, Bool, true, false, cond, List, [], ◌∷◌, Option, Some, None, length, refl, sym, ap, subst, ◌∙◌}
+use Rattle.std.proofs.Common.{◌≡◌, ℕ, zero, suc, Bool, true, false, cond, List, [], ◌∷◌, Option, Some, None, length, refl}
 use Rattle.std.specs.Prelude.{ℤ, pos, negsuc, reverse, slice_get}
 use Rattle.std.specs.FinMap.{get}
 use Rattle.std.proofs.lemmas.Bool.{false≢true}
@@ -7,21 +7,21 @@ use Rattle.kilim_program.specs.declared.class.Method.{Method}
 use Rattle.kilim_program.specs.Program.{Program}
 use Rattle.kilim_program.specs.declared.instr.Instr.{Instr}
 use Rattle.kilim_program.specs.declared.instr.Instr.TheVariants.{Invokevirtual, Invokespecial, Invokestatic}
-use Rattle.kilim_program.specs.declared.names.BoxName.{BoxName}
 use Rattle.kilim_program.specs.declared.names.MethodId.{MethodId}
 use Rattle.kilim_program.specs.declared.ty.Ty.{Ty}
 use Rattle.kilim_program.specs.declared.value.Value.{Value}
 use Rattle.kilim_program.specs.declared.value.Value.TheVariants.{Int, Long, Null, Ref, Text, Box, Fiber}
+use Rattle.kilim_program.specs.BuiltIn.{message_field}
+use Rattle.kilim_run_state.specs.Shapes.{field_in}
 use Rattle.kilim_program.specs.Names.{method_at}
 use Rattle.kilim_program.specs.Lengths.{fetched}
 use Rattle.kilim_run_state.specs.declared.value.Object.{Object}
 use Rattle.kilim_run_state.specs.Machine.{Objects, Activation}
-use Rattle.kilim_run_machine.specs.Natives.{is_built_in_constructor, is_handed_out, is_text_method}
+use Rattle.kilim_run_machine.specs.Natives.{is_built_in_constructor, is_get_message, is_handed_out, is_message_constructor, is_text_method}
 use Rattle.kilim_run_machine.specs.Effect.{Effect, Goes, Makes, Opens, Calls, Asks, Returns, Raises, Throws, Ends, Stuck, with_some, on_value, on_values, on_receiver, as_receiver, as_class, text_of}
-use Rattle.kilim_program.specs.Members.{named_type}
-use Rattle.kilim_run_machine.specs.Does.{does, chosen, calls_method, calls_on, special, calls_text, takes_element, text_answers, at_unit, unit_at}
+use Rattle.kilim_run_machine.specs.Does.{does, chosen, calls_built_in, calls_method, calls_on, gives_message, keeps_message, special, calls_text, takes_element, text_answers, at_unit, unit_at}
 use Rattle.kilim_run_machine.specs.Moves.{effect_of, effect_in, effect_found}
-use Rattle.kilim_isolation_laws.proofs.at_rest.Quiet.{NoAsk, AsksNothing, is_call, no_if, no_when, no_some, no_value, no_int, no_receiver, no_on_int, no_on_object, no_on_receiver, no_index, no_ask}
+use Rattle.kilim_isolation_laws.proofs.at_rest.Quiet.{NoAsk, AsksNothing, is_call, no_if, no_when, no_some, no_int, no_receiver, no_on_int, no_object, no_on_object, no_on_receiver, no_index, no_ask}
 
 -- what a mailbox alone is asked, the other one asks too, on its own heap
 abbrev pub SameAsk : Objects → Effect → Effect → Type 0
@@ -106,10 +106,23 @@ module _ (h k : Objects) where
   on_receiver_same st go ho f =
       value_same st (λ v rest. as_receiver v (λ r. go r rest)) (λ v rest. as_receiver v (λ r. ho r rest)) (λ v rest. receiver_same v (λ r. go r rest) (λ r. ho r rest) (λ r. f r rest))
 
+  keeps_quiet : (args : List Value) (next : ℕ) (locals rest : List Value) → NoAsk (keeps_message args next locals rest h)
+  keeps_quiet [] next locals rest = record { holds = tt }
+  keeps_quiet (v ∷ []) next locals rest = record { holds = tt }
+  keeps_quiet (v ∷ w ∷ []) next locals rest = no_object v h _ (λ n object. no_some (field_in object.fields message_field) _ (λ old. record { holds = tt }))
+  keeps_quiet (v ∷ w ∷ x ∷ xs) next locals rest = record { holds = tt }
+
+  gives_quiet : (args : List Value) (next : ℕ) (locals rest : List Value) → NoAsk (gives_message args next locals rest h)
+  gives_quiet [] next locals rest = record { holds = tt }
+  gives_quiet (v ∷ []) next locals rest = no_object v h _ (λ n object. no_some (field_in object.fields message_field) _ (λ w. record { holds = tt }))
+  gives_quiet (v ∷ w ∷ ws) next locals rest = record { holds = tt }
+
   method_same : (o : Option Method) (m : MethodId) (args : List Value) (next : ℕ) (locals rest : List Value) → AsksSame k (calls_method o m args next locals rest h) (calls_method o m args next locals rest k)
   method_same None m args next locals rest = record { same = tt }
   method_same (Some method) m args next locals rest =
-      if_same method.built_in (Asks m args next locals rest h) (Calls m args next locals rest h) (Asks m args next locals rest k) (Calls m args next locals rest k) (asks_same m args next locals rest) (record { same = tt })
+      if_same method.built_in (calls_built_in method m args next locals rest h) (Calls m args next locals rest h) (calls_built_in method m args next locals rest k) (Calls m args next locals rest k)
+      (if_same (is_message_constructor method) _ _ _ _ (quiet_same k _ _ (keeps_quiet args next locals rest)) (if_same (is_get_message method) _ _ _ _ (quiet_same k _ _ (gives_quiet args next locals rest)) (asks_same m args next locals rest)))
+      (record { same = tt })
 
   either_same : (b : Bool) (x y d : Effect) → AsksSame k x d → AsksSame k y d → AsksSame k (cond b x y) d
   either_same true x y d p q = p
@@ -119,7 +132,9 @@ module _ (h k : Objects) where
   named_same : (o : Option Method) (m : MethodId) (n : ℕ) (args : List Value) (next : ℕ) (locals rest : List Value) (d : Effect) → AsksSame k (calls_method o m (Ref n ∷ args) next locals rest h) d
   named_same None m n args next locals rest d = record { same = tt }
   named_same (Some method) m n args next locals rest d =
-      either_same method.built_in (Asks m (Ref n ∷ args) next locals rest h) (Calls m (Ref n ∷ args) next locals rest h) d (record { same = tt }) (record { same = tt })
+      either_same method.built_in (calls_built_in method m (Ref n ∷ args) next locals rest h) (Calls m (Ref n ∷ args) next locals rest h) d
+      (either_same (is_message_constructor method) _ _ d (quiet_same k _ d (keeps_quiet (Ref n ∷ args) next locals rest)) (either_same (is_get_message method) _ _ d (quiet_same k _ d (gives_quiet (Ref n ∷ args) next locals rest)) (record { same = tt })))
+      (record { same = tt })
 
   module _ (p : Program) (named : Method) (m : MethodId) (args : List Value) (next : ℕ) (locals rest : List Value) where
     class_same : (receiver : Value) (ty : Option Ty) → AsksSame k (calls_on p named m args next locals rest h receiver ty) (calls_on p named m args next locals rest k receiver ty)

@@ -16,8 +16,7 @@ use Rattle.kilim_run_state.specs.declared.value.Object.{Object}
 use Rattle.kilim_run_state.specs.Machine.{Objects}
 use Rattle.kilim_run_state.specs.Shapes.{field_in}
 use Rattle.kilim_program.specs.Names.{field_of}
-use Rattle.kilim_run_machine.specs.Effect.{Effect, Goes, Makes, Opens, Calls, Asks, Returns, Raises, Throws, Ends, Stuck, with_some, on_value, on_values, on_receiver, as_reference, as_receiver, as_int, as_long, on_int, on_two_ints, on_long, on_two_longs, is_wide, wide_or, on_word, on_two_words, on_reference, as_object, on_object, as_class, at_index, at_place, when, on_constant}
-use Rattle.kilim_program.specs.Members.{named_type}
+use Rattle.kilim_run_machine.specs.Effect.{Effect, Goes, Makes, Opens, Calls, Asks, Returns, Raises, Throws, Ends, Stuck, with_some, on_value, on_receiver, as_reference, as_receiver, as_int, as_long, on_int, on_two_ints, on_long, on_two_longs, is_wide, wide_or, on_word, on_two_words, on_reference, as_object, on_object, as_class, at_index, at_place, when, on_constant}
 use Rattle.kilim_run_machine.specs.Does.{does, cast_fits, element_type, is_mailbox, makes_array, array_limit, throws_object}
 
 abbrev pub AsksNothing : Effect → Type 0
@@ -129,7 +128,7 @@ no_two_words st go h =
     no_value st (λ v rest. wide_or (is_wide v) (go (v ∷ []) rest) (on_word rest (λ w below. go (v ∷ w ∷ []) below)))
     (λ v rest. no_wide (is_wide v) (go (v ∷ []) rest) (on_word rest (λ w below. go (v ∷ w ∷ []) below)) (h (v ∷ []) rest) (no_word rest (λ w below. go (v ∷ w ∷ []) below) (λ w below. h (v ∷ w ∷ []) below)))
 
-no_object : (v : Value) (heap : Objects) (go : ℕ → Object → Effect) → ((n : ℕ) (object : Object) → NoAsk (go n object)) → NoAsk (as_object v heap go)
+pub no_object : (v : Value) (heap : Objects) (go : ℕ → Object → Effect) → ((n : ℕ) (object : Object) → NoAsk (go n object)) → NoAsk (as_object v heap go)
 no_object (Int x) heap go h = record { holds = tt }
 no_object (Long x) heap go h = record { holds = tt }
 no_object Null heap go h = record { holds = tt }

@@ -1,5 +1,6 @@
 -- Calls: the arguments on the stack, and the method that runs.
-use Rattle.kilim_program.specs.BuiltIn.{class_type}
+use Rattle.kilim_program.specs.BuiltIn.{class_type, message_field}
+use Rattle.kilim_program.specs.declared.ty.Qualifier.{Qualifier}
 use Rattle.kilim_program.specs.Fits.{fits_type}
 use Rattle.kilim_program.specs.Names.{method_at}
 use Rattle.kilim_program.specs.Program.{Program}
@@ -14,24 +15,29 @@ use Rattle.kilim_program.specs.declared.verified.VType.{VType}
 use Rattle.kilim_isolation_laws.specs.forest.Canonical.{node_at}
 use Rattle.kilim_isolation_laws.specs.forest.Relation.{is_gone}
 use Rattle.kilim_isolation_laws.proofs.graph_rows.Calling.{ArgsMeet, Knows, PassedLive, argument_lives, call_holds, caller_holds, caller_slots, meet, native_holds}
+use Rattle.kilim_isolation_laws.proofs.graph_rows.Fields.{slot_sort}
+use Rattle.kilim_isolation_laws.proofs.graph_rows.Putting.{slot_value}
 use Rattle.kilim_isolation_laws.proofs.graph_rows.Invoking.{params_fit, arguments_are}
 use Rattle.kilim_isolation_laws.proofs.graph_rows.Passed.{moves_passed, IsPassed}
 use Rattle.kilim_isolation_laws.proofs.graph_rows.Plain.{IsStep, E, dropped}
 use Rattle.kilim_isolation_laws.proofs.graph_rows.Reading.{slot_peeked, slot_lives, met}
-use Rattle.kilim_isolation_laws.proofs.graph_rows.Settle.{not_true, or_left, or_right, flow_slot}
-use Rattle.kilim_isolation_laws.proofs.graph_rows.Words.{cond_h}
+use Rattle.kilim_isolation_laws.proofs.graph_rows.Settle.{and_left, and_right, not_true, or_left, or_right, flow_slot}
+use Rattle.kilim_isolation_laws.proofs.graph_rows.Words.{as_object_h, cond_h, some_h}
 use Rattle.kilim_isolation_laws.specs.graph_rows.Facts.{Agrees, AreOf, IsOfType, ProgramKeeps, class_of}
-use Rattle.kilim_isolation_laws.specs.graph_rows.Holds.{sort, type_sort, SlotFits, AreSlots, named_by, Waiting, Holds}
+use Rattle.kilim_isolation_laws.specs.graph_rows.Holds.{AreSlots, Fits, Holds, SlotFits, Waiting, Word, named_by, sort, type_sort, unnamed}
 use Rattle.kilim_isolation_laws.specs.graph_rows.Outcome.{ArgsFit, Left}
 use Rattle.kilim_isolation_rules.specs.Calls.{quality_in, parameters, receiver, all_passed, calls_with, after_call, takes_from, given_result, is_free, is_cuttable, shares, any_two, handler_graph}
 use Rattle.kilim_isolation_rules.specs.Marks.{mixes, names_gone, names_no_root, names_safe, given}
 use Rattle.kilim_isolation_rules.specs.Rules.{deed, raised_deed}
 use Rattle.kilim_isolation_rules.specs.declared.deed.Deed.{Deed}
 use Rattle.kilim_isolation_rules.specs.declared.deed.Passed.{Passed}
-use Rattle.kilim_run_machine.specs.Does.{calls_method}
+use Rattle.kilim_run_machine.specs.Does.{calls_method, gives_message}
+use Rattle.kilim_run_machine.specs.Effect.{Asks, Calls}
+use Rattle.kilim_run_machine.specs.Natives.{is_get_message, is_message_constructor}
+use Rattle.kilim_run_state.specs.Shapes.{field_in}
 use Rattle.kilim_run_state.specs.Machine.{Objects}
 use Rattle.kilim_isolation_graph.specs.Entry.{quality, parameters_of, declared_parameters}
-use Rattle.kilim_isolation_graph.specs.Graphs.{slot, popped, push}
+use Rattle.kilim_isolation_graph.specs.Graphs.{slot, popped}
 use Rattle.kilim_isolation_graph.specs.declared.graph.Graph.{Graph}
 use Rattle.kilim_type_spec.specs.Step as type
 use Rattle.kilim_program.specs.Kinds.{is_tree_kind, kind_of}
@@ -106,41 +112,39 @@ module _ (p : Program) (k : ProgramKeeps p) (m : Method) (pl to : ℕ) (f f1 : T
   live_by : (callee : Method) (vals : List Value) → ArgsFit p h (named_by g at) (length g.nodes) (all_passed named g f.stack) vals (parameters_of callee) → PassedLive (named_by g at) (all_passed named g f.stack)
   live_by callee vals fits = argument_lives p h (named_by g at) (length g.nodes) (all_passed named g f.stack) vals (parameters_of callee) (met_by callee vals fits)
 
-  -- the method that runs begins, or is asked for
-  pub call_left : (callee : Method) (run : MethodId) → method_at p run ≡ Some callee → (vals : List Value) → ArgsFit p h (named_by g at) (length g.nodes) (all_passed named g f.stack) vals (parameters_of callee) →
-      length callee.qualifiers ≡ length callee.params → callee.result ≡ named.result → (rest : List Value) →
-      AreSlots p m h (named_by g at) (length g.nodes) (drop (takes_from named) f.stack) (drop (takes_from named) g.stack) rest → f1 ≡ record f { stack = result_types named.result ++ drop (takes_from named) f.stack } →
-      E p m pl to f f1 g g1 at h ls st below after i (calls_method (Some callee) run vals to ls rest h)
-  call_left callee run found vals fits size result rest slots types = cond_h (E p m pl to f f1 g g1 at h ls st below after i) tt (λ c. tt) (λ c. tt) callee.built_in _ _
-      (λ built. (edge, refl, native_holds p m f g at h ls st below s.0 (all_passed named g f.stack) vals callee (met_by callee vals fits) free shared cuttable size fits run (takes_from named) rest f1 g1 found slots types_are graph_is (raised_deed p g f i).graph raised_is))
-      (λ own. (
-        edge,
-        refl,
-        call_holds p m f g at h ls st below s.0 (all_passed named g f.stack) vals callee (met_by callee vals fits) free shared cuttable size run (record f { stack = drop (takes_from named) f.stack }) (takes_from named) rest f1 g1 found
-            (caller_slots p m f g at h ls st below s.0 (all_passed named g f.stack) (live_by callee vals fits) free shared cuttable (takes_from named) rest slots) types_are graph_is (raised_deed p g f i).graph raised_is (λ j. refl),
-      ))
-    where
-      types_are : f1 ≡ record f { stack = result_types callee.result ++ drop (takes_from named) f.stack }
-      types_are = types ∙ ap (λ z. record f { stack = result_types z ++ drop (takes_from named) f.stack }) (sym result)
+  -- the method that runs is asked for, or begins
+  module _ (callee : Method) (run : MethodId) (found : method_at p run ≡ Some callee) (vals : List Value) (fits : ArgsFit p h (named_by g at) (length g.nodes) (all_passed named g f.stack) vals (parameters_of callee))
+      (size : length callee.qualifiers ≡ length callee.params) (result : callee.result ≡ named.result) (rest : List Value)
+      (slots : AreSlots p m h (named_by g at) (length g.nodes) (drop (takes_from named) f.stack) (drop (takes_from named) g.stack) rest) (types : f1 ≡ record f { stack = result_types named.result ++ drop (takes_from named) f.stack }) where
+    types_are : f1 ≡ record f { stack = result_types callee.result ++ drop (takes_from named) f.stack }
+    types_are = types ∙ ap (λ z. record f { stack = result_types z ++ drop (takes_from named) f.stack }) (sym result)
 
-      graph_is : g1 ≡ given_result p callee.result (popped (takes_from named) (after_call p (all_passed named g f.stack) g))
-      graph_is = graph ∙ ap (λ z. given_result p z (popped (takes_from named) (after_call p (all_passed named g f.stack) g))) (sym result)
+    graph_is : g1 ≡ given_result p callee.result (popped (takes_from named) (after_call p (all_passed named g f.stack) g))
+    graph_is = graph ∙ ap (λ z. given_result p z (popped (takes_from named) (after_call p (all_passed named g f.stack) g))) (sym result)
+
+    pub asked_left : E p m pl to f f1 g g1 at h ls st below after i (Asks run vals to ls rest h)
+    asked_left = (edge, refl, native_holds p m f g at h ls st below s.0 (all_passed named g f.stack) vals callee (met_by callee vals fits) free shared cuttable size fits run (takes_from named) rest f1 g1 found slots types_are graph_is (raised_deed p g f i).graph raised_is)
+
+    pub begun_left : E p m pl to f f1 g g1 at h ls st below after i (Calls run vals to ls rest h)
+    begun_left = (
+      edge,
+      refl,
+      call_holds p m f g at h ls st below s.0 (all_passed named g f.stack) vals callee (met_by callee vals fits) free shared cuttable size run (record f { stack = drop (takes_from named) f.stack }) (takes_from named) rest f1 g1 found
+          (caller_slots p m f g at h ls st below s.0 (all_passed named g f.stack) (live_by callee vals fits) free shared cuttable (takes_from named) rest slots) types_are graph_is (raised_deed p g f i).graph raised_is (λ j. refl),
+    )
 
   -- a method whose result is a value answers at once
   pub answered : (callee : Method) (vals : List Value) → ArgsFit p h (named_by g at) (length g.nodes) (all_passed named g f.stack) vals (parameters_of callee) → (rest : List Value) →
       AreSlots p m h (named_by g at) (length g.nodes) (drop (takes_from named) f.stack) (drop (takes_from named) g.stack) rest → f1 ≡ record f { stack = result_types named.result ++ drop (takes_from named) f.stack } →
-      (ty : Ty) → named.result ≡ Some ty → type.vtype ty ≡ vtype.Int → kind_of p ty ≡ kind.Value → (x : ℤ) → Left p m f1 g1 h ls (Int x ∷ rest) below
-  unfolding sort
-  answered callee vals fits rest slots types ty result int value x =
-      let hd = caller_holds p m f g at h ls st below s.0 (all_passed named g f.stack) (live_by callee vals fits) free shared cuttable (takes_from named) rest slots in
-      let after_graph = popped (takes_from named) (after_call p (all_passed named g f.stack) g) in (
+      (ty : Ty) → named.result ≡ Some ty → sort p m (type.vtype ty) ≡ Word → kind_of p ty ≡ kind.Value → (v : Value) → Fits p h Word v → Left p m f1 g1 h ls (v ∷ rest) below
+  answered callee vals fits rest slots types ty result word value v fit =
+      let hd = caller_holds p m f g at h ls st below s.0 (all_passed named g f.stack) (live_by callee vals fits) free shared cuttable (takes_from named) rest slots in (
         at,
-        subst (λ z. Holds p m z g1 at h ls (Int x ∷ rest) below) (sym (types ∙ ap (λ z. record f { stack = result_types z ++ drop (takes_from named) f.stack }) result))
-            (subst (λ z. Holds p m (record f { stack = type.vtype ty ∷ drop (takes_from named) f.stack }) z at h ls (Int x ∷ rest) below)
+        subst (λ z. Holds p m z g1 at h ls (v ∷ rest) below) (sym (types ∙ ap (λ z. record f { stack = result_types z ++ drop (takes_from named) f.stack }) result))
+            (subst (λ z. Holds p m (record f { stack = type.vtype ty ∷ drop (takes_from named) f.stack }) z at h ls (v ∷ rest) below)
             (sym (graph ∙ ap (λ z. given_result p z (popped (takes_from named) (after_call p (all_passed named g f.stack) g))) result
             ∙ ap (λ z. given z (popped (takes_from named) (after_call p (all_passed named g f.stack) g))) value))
-            (subst (λ z. Holds p m (record f { stack = z ∷ drop (takes_from named) f.stack }) (push None (popped (takes_from named) (after_call p (all_passed named g f.stack) g))) at h ls (Int x ∷ rest) below) (sym int)
-            (record { heap = hd.heap; forest = hd.forest; frames = hd.frames; tidy = hd.tidy; waits = hd.waits; slots = record { on_stack = ((refl, refl), hd.slots.on_stack); in_locals = hd.slots.in_locals } }))),
+            (record { heap = hd.heap; forest = hd.forest; frames = hd.frames; tidy = hd.tidy; waits = hd.waits; slots = record { on_stack = (subst (λ z. Fits p h (unnamed z) v) (sym word) fit, hd.slots.on_stack); in_locals = hd.slots.in_locals } })),
       )
 
   -- ---- with a receiver
@@ -207,6 +211,21 @@ module _ (p : Program) (k : ProgramKeeps p) (m : Method) (pl to : ℕ) (f f1 : T
         knows true e = inl (ap (λ b. cond b (Some named.receiver) None) e ∙ sym passed_as)
         knows false e = inr (ap (λ b. cond b (Some named.receiver) None) e)
 
+    -- the one argument, of a type whose values name nothing
+    pub one_value : all_meet p (arguments named ++ []) f.stack ≡ true → (ty : Ty) → named.params ≡ ty ∷ [] → type_sort p ty ≡ Word → (v : Value) → reverse vs ≡ v ∷ [] → Fits p h Word v
+    one_value meets_all ty one word v is =
+        by params named.qualifiers (subst (λ z. ArgsFit p h (named_by g at) (length g.nodes) params (v ∷ []) (declared_parameters z named.qualifiers)) one
+        (subst (λ z. ArgsFit p h (named_by g at) (length g.nodes) params z (declared_parameters named.params named.qualifiers)) is (params_here [] meets_all)))
+      where
+        by : (as1 : List Passed) (qs : List Qualifier) → ArgsFit p h (named_by g at) (length g.nodes) as1 (v ∷ []) (declared_parameters (ty ∷ []) qs) → Fits p h Word v
+        by (a ∷ as1) (q ∷ qs) fit = slot_value p h (named_by g at) (length g.nodes) Word a.name v (subst (λ z. SlotFits p h (named_by g at) (length g.nodes) z a.name v) word fit.0) fit.1
+        by (a ∷ as1) [] fit = absurd fit
+        by [] qs fit = absurd (nothing qs fit)
+          where
+            nothing : (qs : List Qualifier) → ArgsFit p h (named_by g at) (length g.nodes) [] (v ∷ []) (declared_parameters (ty ∷ []) qs) → ⊥
+            nothing [] fit = fit
+            nothing (q ∷ qs) fit = fit
+
     -- no argument is gone, whatever the class of the receiver
     pub begun_live : (more : List Operand) → all_meet p (arguments named ++ more) f.stack ≡ true → PassedLive (named_by g at) (all_passed named g f.stack)
     begun_live more meets_all = subst (λ z. PassedLive (named_by g at) z) (sym args_are) at_place
@@ -244,19 +263,39 @@ module _ (p : Program) (k : ProgramKeeps p) (m : Method) (pl to : ℕ) (f f1 : T
               ∙ ap (λ z. record { ty = class_type callee.owner.0; qualifier = callee.receiver } ∷ declared_parameters named.params z) a.qualifiers
 
       itself : Agrees p named named
-      itself = record { params = refl; qualifiers = refl; result = refl; instance = instance; quality_is = refl; sort_is = refl; sized = sized }
+      itself = record { params = refl; qualifiers = refl; result = refl; instance = instance; plain = plain; quality_is = refl; sort_is = refl; sized = sized }
 
       length_is : length (arguments named ++ (Is (class_vtype named.owner) ∷ [])) ≡ takes_from named
       length_is = length_more (arguments named) (Is (class_vtype named.owner)) ∙ ap (λ j. j + 1) (ap length (arguments_are p m h (named_by g at) (length g.nodes) named) ∙ length_map (reverse named.params) ∙ length-reverse named.params) ∙ sym takes_is
 
-      types_are : f1 ≡ record f { stack = result_types named.result ++ drop (takes_from named) f.stack }
-      types_are = types ∙ ap (λ j. record f { stack = result_types named.result ++ drop j f.stack }) length_is
+      left_types : f1 ≡ record f { stack = result_types named.result ++ drop (takes_from named) f.stack }
+      left_types = types ∙ ap (λ j. record f { stack = result_types named.result ++ drop j f.stack }) length_is
+
+      -- the message of an exception is a value
+      message_left : (callee : Method) (run : MethodId) → method_at p run ≡ Some callee → Agrees p named callee → is_get_message callee ≡ true → (vals : List Value) → ArgsFit p h (named_by g at) (length g.nodes) (all_passed named g f.stack) vals (parameters_of callee) →
+          E p m pl to f f1 g g1 at h ls st below after i (gives_message vals to ls rest h)
+      message_left callee run found a get [] fit = tt
+      message_left callee run found a get (v ∷ w ∷ ws) fit = tt
+      message_left callee run found a get (v ∷ []) fit = as_object_h (E p m pl to f f1 g g1 at h ls st below after i) tt (λ c. tt) (λ c. tt) v h _ (λ n object is there.
+          some_h (E p m pl to f f1 g g1 at h ls st below after i) tt (λ c. tt) (λ c. tt) (field_in object.fields message_field) _ (λ w has.
+          let gives = k.gives_messages run callee found get in (
+            edge,
+            answered callee (v ∷ []) fit rest rest_on_stack left_types gives.0 (sym a.result ∙ gives.1) (slot_sort p m gives.0 ∙ gives.2) gives.3 w
+                (subst (λ z. Fits p h z w) k.message ((s.0.holds.heap n object there).fields message_field w has).0),
+          )))
 
       pub instance_left : (callee : Method) (run : MethodId) → method_at p run ≡ Some callee → Agrees p named callee → E p m pl to f f1 g g1 at h ls st below after i (calls_method (Some callee) run (r ∷ reverse vs) to ls rest h)
-      instance_left callee run found a = call_left callee run found (r ∷ reverse vs) (fits callee a) a.sized a.result rest rest_on_stack types_are
+      instance_left callee run found a = cond_h (E p m pl to f f1 g g1 at h ls st below after i) tt (λ c. tt) (λ c. tt) callee.built_in _ _
+          (λ built. cond_h (E p m pl to f f1 g g1 at h ls st below after i) tt (λ c. tt) (λ c. tt) (is_message_constructor callee) _ _
+          (λ keeps. absurd (true≢false (sym (and_left (is_constructor callee) _ (and_right callee.built_in _ keeps)) ∙ a.plain)))
+          (λ other. cond_h (E p m pl to f f1 g g1 at h ls st below after i) tt (λ c. tt) (λ c. tt) (is_get_message callee) _ _
+          (λ get. message_left callee run found a get (r ∷ reverse vs) (fits callee a))
+          (λ none. asked_left callee run found (r ∷ reverse vs) (fits callee a) a.sized a.result rest rest_on_stack left_types)))
+          (λ own. begun_left callee run found (r ∷ reverse vs) (fits callee a) a.sized a.result rest rest_on_stack left_types)
 
       pub text_left : (ty : Ty) → named.result ≡ Some ty → type.vtype ty ≡ vtype.Int → kind_of p ty ≡ kind.Value → (x : ℤ) → Left p m f1 g1 h ls (Int x ∷ rest) below
-      text_left ty result int value x = answered named (r ∷ reverse vs) (fits named itself) rest rest_on_stack types_are ty result int value x
+      unfolding sort
+      text_left ty result int value x = answered named (r ∷ reverse vs) (fits named itself) rest rest_on_stack left_types ty result (ap (sort p m) int) value (Int x) (refl, refl)
 
       -- the class of the receiver fits the named one
       pub receiver_class : AreOf p h f.stack st → (c : Ty) → class_of p h r ≡ Some c → fits_type p c (class_type named.owner.0) ≡ true

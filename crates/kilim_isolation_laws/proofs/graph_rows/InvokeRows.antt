@@ -1,5 +1,5 @@
 -- The rows of calls.
-use Rattle.kilim_program.specs.BuiltIn.{class_id, class_type}
+use Rattle.kilim_program.specs.BuiltIn.{class_id, class_type, message_field}
 use Rattle.kilim_program.specs.Kinds.{class_kind, is_tree_kind, kind_of}
 use Rattle.kilim_program.specs.Lengths.{jump_targets, ends_path}
 use Rattle.kilim_program.specs.Names.{class_at, is_empty, method_at}
@@ -22,24 +22,30 @@ use Rattle.kilim_isolation_laws.proofs.forest.Store.{both_ways}
 use Rattle.kilim_isolation_laws.specs.forest.Canonical.{node_at}
 use Rattle.kilim_isolation_laws.specs.forest.Relation.{is_gone, Named}
 use Rattle.kilim_isolation_laws.proofs.graph_rows.Calling.{ArgsMeet, PassedLive, after_within, call_holds, caller_holds, caller_slots}
-use Rattle.kilim_isolation_laws.proofs.graph_rows.Invoke.{begun_live, begun_meet, call_left, instance_left, receiver_class, receiver_on_stack, rest_on_stack, text_left, cuttable, free, graph, shared}
+use Rattle.kilim_isolation_laws.proofs.graph_rows.Invoke.{asked_left, begun_left as called_left, begun_live, begun_meet, instance_left, one_value, receiver_class, receiver_on_stack, rest_on_stack, text_left, cuttable, free, graph, shared}
 use Rattle.kilim_isolation_laws.proofs.graph_rows.Invoking.{values_h, params_fit, arguments_are}
 use Rattle.kilim_isolation_laws.proofs.graph_rows.Passed.{takes_passed, rule_passed, ok_is, further_passed}
 use Rattle.kilim_isolation_laws.proofs.graph_rows.Plain.{IsStep, E, dropped}
+use Rattle.kilim_isolation_laws.proofs.graph_rows.Heaps.{same_has}
+use Rattle.kilim_isolation_laws.proofs.graph_rows.Putting.{grows, heap_fits, same_holds, same_trees}
 use Rattle.kilim_isolation_laws.proofs.graph_rows.Reading.{slot_lives}
 use Rattle.kilim_isolation_laws.proofs.graph_rows.Settle.{not_true, and_left, and_right}
-use Rattle.kilim_isolation_laws.proofs.graph_rows.Words.{class_of_h, cond_h, some_h, value_h, on_receiver_h, receiver_h, when_h}
+use Rattle.kilim_isolation_laws.proofs.graph_rows.Words.{as_object_h, class_of_h, cond_h, some_h, value_h, on_receiver_h, receiver_h, when_h}
 use Rattle.kilim_isolation_laws.specs.graph_rows.Facts.{AreOf, ProgramKeeps, class_of}
-use Rattle.kilim_isolation_laws.specs.graph_rows.Holds.{SlotsFit, made_sort, value_at, sort, object_sort, SlotFits, AreSlots, named_by, Waiting, Holds}
+use Rattle.kilim_isolation_laws.specs.graph_rows.Holds.{AreSlots, Fits, Holds, SlotFits, SlotsFit, Waiting, Word, field_sort, made_sort, named_by, object_sort, refers, sort, value_at}
 use Rattle.kilim_isolation_laws.specs.graph_rows.Outcome.{ArgsFit, Left, CallHolds, NativeHolds, NoneFree}
 use Rattle.kilim_isolation_rules.specs.Calls.{parameters, receiver, all_passed, calls, calls_with, after_call, takes_from, given_result, call_raises, handler_graph}
 use Rattle.kilim_isolation_rules.specs.Marks.{mixes, names_gone}
 use Rattle.kilim_isolation_rules.specs.Rules.{deed, raised_deed}
 use Rattle.kilim_isolation_rules.specs.declared.deed.Passed.{Passed}
-use Rattle.kilim_run_machine.specs.Does.{calls_method, calls_text, does, calls_on, chosen, special, text_answers, at_unit, unit_at, is_text, bit, int_length, takes_element}
+use Rattle.kilim_run_machine.specs.Does.{calls_built_in, calls_method, calls_text, does, calls_on, keeps_message, with_field, chosen, special, text_answers, at_unit, unit_at, is_text, bit, int_length, takes_element}
 use Rattle.kilim_run_machine.specs.Effect.{Effect, Calls, Asks, Goes, text_of}
+use Rattle.kilim_run_state.specs.declared.value.Object.{Object}
+use Rattle.kilim_run_state.specs.Shapes.{field_in}
+use Rattle.std.specs.FinMap.{get, insert}
+use Rattle.kilim_lemmas.proofs.Texts.{text_is}
 use Rattle.kilim_run_state.specs.Machine.{Objects}
-use Rattle.kilim_run_machine.specs.Natives.{is_built_in_constructor, is_handed_out, is_text_method}
+use Rattle.kilim_run_machine.specs.Natives.{is_built_in_constructor, is_get_message, is_handed_out, is_message_constructor, is_text_method}
 use Rattle.kilim_isolation_graph.specs.Entry.{parameters_of, declared_parameters, quality}
 use Rattle.kilim_isolation_graph.specs.Graphs.{slot, popped}
 use Rattle.kilim_isolation_graph.specs.declared.graph.Graph.{Graph}
@@ -210,6 +216,15 @@ constructed_is p m named f f1 also (vtype.Int ∷ s) e = absurd (cc)
 constructed_is p m named f f1 also (vtype.Long ∷ s) e = absurd (cc)
 constructed_is p m named f f1 also (vtype.Null ∷ s) e = absurd (cc)
 constructed_is p m named f f1 also (vtype.Object ty ∷ s) e = absurd (cc)
+
+-- a value in a field of an object, where what was there names nothing more than it does
+left_written : (p : Program) (m : Method) (f : Types) (g : Graph) (h : Objects) (ls rest : List Value) (below : List Waiting) → Left p m f g h ls rest below → (n : ℕ) (object : Object) (there : get h n ≡ Some object) (old v : Value)
+    (has : field_in object.fields message_field ≡ Some old) → Fits p h (field_sort p message_field) v → refers v ≡ refers old → Left p m f g (insert h n (record object { fields = with_field object.fields message_field v })) ls rest below
+left_written p m f g h ls rest below left n object there old v has fit same = (
+  left.0,
+  same_holds p m f g left.0 h (insert h n (record object { fields = with_field object.fields message_field v })) ls rest below left.1 (grows p h n object there message_field old v has) (heap_fits p h n object there message_field old v has left.1.heap fit)
+      (same_has p h n object (record object { fields = with_field object.fields message_field v }) there refl) (same_trees p h n object there message_field old v has (λ d x is. same)) f.stack g.stack rest left.1.slots.on_stack,
+)
 
 append_nil : (os : List Operand) → os ++ [] ≡ os
 append_nil [] = refl
@@ -403,7 +418,7 @@ module _ (p : Program) (k : ProgramKeeps p) (m : Method) (pl to : ℕ) (f f1 : T
       constructs_left : named.built_in ≡ false → EI (instr.Invokespecial id) (calls_method (method_at p (special p m named id)) (special p m named id) (r ∷ reverse vs) to ls rest h)
       constructs_left own = subst (λ z. EI (instr.Invokespecial id) (calls_method (method_at p z) z (r ∷ reverse vs) to ls rest h)) (sym itself)
           (subst (λ z. EI (instr.Invokespecial id) (calls_method z id (r ∷ reverse vs) to ls rest h)) (sym is)
-          (subst (λ b. EI (instr.Invokespecial id) (cond b (Rattle.kilim_run_machine.specs.Effect.Asks id (r ∷ reverse vs) to ls rest h) (Rattle.kilim_run_machine.specs.Effect.Calls id (r ∷ reverse vs) to ls rest h))) (sym own) (special_edge, refl, call)))
+          (subst (λ b. EI (instr.Invokespecial id) (cond b (calls_built_in named id (r ∷ reverse vs) to ls rest h) (Calls id (r ∷ reverse vs) to ls rest h))) (sym own) (special_edge, refl, call)))
         where
           itself : special p m named id ≡ id
           itself = ap (λ b. cond (b || named.owner.0 == m.owner.0) id (Rattle.kilim_run_machine.specs.Does.above_of p named id (Rattle.kilim_run_machine.specs.Does.superclass_of (class_at p m.owner)))) con
@@ -416,14 +431,9 @@ module _ (p : Program) (k : ProgramKeeps p) (m : Method) (pl to : ℕ) (f f1 : T
               (record { locals = replaced built.2.old built.2.new f.locals; stack = replaced built.2.old built.2.new built.2.rest; unset = built.2.unset }) (takes_from named) rest f1 g1 is slots built.2.types (graph p k m pl to f f1 g g1 at h ls st below after (instr.Invokespecial id) s special_edge named (k.sized id named is) (special_deed named is) (special_raised named is)) (raised_deed p g f (instr.Invokespecial id)).graph (special_raised named is) (λ j. sym (replaced_peek p m built.2.old built.2.new built.2.same f.locals j))
 
       -- a built-in one that takes something is asked; it is given no tree
-      constructor_asked : named.built_in ≡ true → EI (instr.Invokespecial id) (calls_method (method_at p (special p m named id)) (special p m named id) (r ∷ reverse vs) to ls rest h)
-      constructor_asked own = subst (λ z. EI (instr.Invokespecial id) (calls_method (method_at p z) z (r ∷ reverse vs) to ls rest h)) (sym itself)
-          (subst (λ z. EI (instr.Invokespecial id) (calls_method z id (r ∷ reverse vs) to ls rest h)) (sym is)
-          (subst (λ b. EI (instr.Invokespecial id) (cond b (Rattle.kilim_run_machine.specs.Effect.Asks id (r ∷ reverse vs) to ls rest h) (Rattle.kilim_run_machine.specs.Effect.Calls id (r ∷ reverse vs) to ls rest h))) (sym own) (special_edge, refl, native)))
+      constructor_asked : named.built_in ≡ true → EI (instr.Invokespecial id) (Asks id (r ∷ reverse vs) to ls rest h)
+      constructor_asked own = (special_edge, refl, native)
         where
-          itself : special p m named id ≡ id
-          itself = ap (λ b. cond (b || named.owner.0 == m.owner.0) id (Rattle.kilim_run_machine.specs.Does.above_of p named id (Rattle.kilim_run_machine.specs.Does.superclass_of (class_at p m.owner)))) con
-
           facts : (named.result ≡ None) × (named.receiver ≡ qualifier.Cuttable) × (list_all (same_qualifier qualifier.Safe) named.qualifiers ≡ true)
           facts = k.constructors id named is own con
 
@@ -456,7 +466,7 @@ module _ (p : Program) (k : ProgramKeeps p) (m : Method) (pl to : ℕ) (f f1 : T
           }
 
       -- a built-in one changes the types alone, and what was known below the object
-      module _ (here : named.built_in ≡ true) (empty : named.params ≡ []) where
+      module _ (here : named.built_in ≡ true) where
         none : named.result ≡ None
         none = (k.constructors id named is here con).0
 
@@ -475,6 +485,41 @@ module _ (p : Program) (k : ProgramKeeps p) (m : Method) (pl to : ℕ) (f f1 : T
                   (record { heap = hd.heap; forest = hd.forest; frames = hd.frames; tidy = hd.tidy; waits = hd.waits; slots = slots })),
             )
 
+        -- what keeps the message puts a value into a field
+        message_kept : (args : List Value) → reverse vs ≡ args → is_message_constructor named ≡ true → EI (instr.Invokespecial id) (keeps_message (r ∷ args) to ls rest h)
+        message_kept [] values keeps = tt
+        message_kept (v ∷ w ∷ ws) values keeps = tt
+        message_kept (v ∷ []) values keeps = as_object_h (EI (instr.Invokespecial id)) tt (λ c. tt) (λ c. tt) r h _ (λ n object is_at there.
+            some_h (EI (instr.Invokespecial id)) tt (λ c. tt) (λ c. tt) (field_in object.fields message_field) _ (λ old has.
+            (special_edge, left_written p m f1 g1 h ls rest below begun_left n object there old v has (subst (λ z. Fits p h z v) (sym k.message) (fit v values keeps)) (names_same n object there old v has (fit v values keeps)))))
+          where
+            fit : (v : Value) → reverse vs ≡ v ∷ [] → is_message_constructor named ≡ true → Fits p h Word v
+            fit v values keeps =
+                let one = k.keeps_messages id named is keeps in
+                one_value p k m pl to f f1 g g1 at h ls st below after (instr.Invokespecial id) s special_edge named (k.sized id named is) (special_deed named is) (special_raised named is) built.1 vs r rest e size
+                (ap (λ z. all_meet p z f.stack) (append_nil (arguments named)) ∙ built.0) one.0 one.1 one.2 v values
+
+            names_same : (n : ℕ) (object : Object) → get h n ≡ Some object → (old v : Value) → field_in object.fields message_field ≡ Some old → Fits p h Word v → refers v ≡ refers old
+            names_same n object there old v has word =
+                let was : Fits p h Word old = subst (λ z. Fits p h z old) k.message ((s.0.holds.heap n object there).fields message_field old has).0 in
+                word.1 ∙ sym was.1
+
+        pub built_left : EI (instr.Invokespecial id) (calls_method (method_at p (special p m named id)) (special p m named id) (r ∷ reverse vs) to ls rest h)
+        built_left = subst (λ z. EI (instr.Invokespecial id) (calls_method (method_at p z) z (r ∷ reverse vs) to ls rest h)) (sym itself)
+            (subst (λ z. EI (instr.Invokespecial id) (calls_method z id (r ∷ reverse vs) to ls rest h)) (sym is)
+            (subst (λ b. EI (instr.Invokespecial id) (cond b (calls_built_in named id (r ∷ reverse vs) to ls rest h) (Calls id (r ∷ reverse vs) to ls rest h))) (sym here)
+            (cond_h (EI (instr.Invokespecial id)) tt (λ c. tt) (λ c. tt) (is_message_constructor named) _ _ (λ keeps. message_kept (reverse vs) refl keeps)
+            (λ other. cond_h (EI (instr.Invokespecial id)) tt (λ c. tt) (λ c. tt) (is_get_message named) _ _ (λ get. absurd (no_message get)) (λ none_of. constructor_asked here)))))
+          where
+            itself : special p m named id ≡ id
+            itself = ap (λ b. cond (b || named.owner.0 == m.owner.0) id (Rattle.kilim_run_machine.specs.Does.above_of p named id (Rattle.kilim_run_machine.specs.Does.superclass_of (class_at p m.owner)))) con
+
+            no_message : is_get_message named ≡ true → ⊥
+            no_message get =
+                let name : named.name ≡ codes "getMessage" = text_is named.name (codes "getMessage") (and_right named.built_in _ get) in
+                let no : false ≡ true = ap (λ (t : List ℕ). bytes_eq t (codes "<init>")) (sym name) ∙ con in
+                cc
+
     no_params : (ps : List Ty) → is_empty ps ≡ true → ps ≡ []
     no_params [] e = refl
     no_params (x ∷ ps) e = absurd (true≢false (sym e))
@@ -485,7 +530,7 @@ module _ (p : Program) (k : ProgramKeeps p) (m : Method) (pl to : ℕ) (f f1 : T
         (λ own. on_receiver_h (EI (instr.Invokespecial id)) tt (λ c. tt) (λ c. tt) st _ (λ r rest e narrow.
         let con = and_left (is_constructor named) (is_empty named.params) (Rattle.kilim_isolation_laws.proofs.graph_rows.Settle.and_right named.built_in (is_constructor named && is_empty named.params) own) in
         let empty = no_params named.params (Rattle.kilim_isolation_laws.proofs.graph_rows.Settle.and_right (is_constructor named) (is_empty named.params) (Rattle.kilim_isolation_laws.proofs.graph_rows.Settle.and_right named.built_in (is_constructor named && is_empty named.params) own)) in
-        (special_edge, begun_left named is con [] r rest e (sym (ap length empty)) (and_left named.built_in (is_constructor named && is_empty named.params) own) empty)))
+        (special_edge, begun_left named is con [] r rest e (sym (ap length empty)) (and_left named.built_in (is_constructor named && is_empty named.params) own))))
         (λ other. values_h (EI (instr.Invokespecial id)) tt (λ c. tt) (λ c. tt) (length named.params) st _ (λ vs under e size. on_receiver_h (EI (instr.Invokespecial id)) tt (λ c. tt) (λ c. tt) under _ (λ r rest e' narrow.
         by named is other vs r rest (e ∙ ap (λ z. vs ++ z) e') size (is_constructor named) refl))))
       where
@@ -496,7 +541,7 @@ module _ (p : Program) (k : ProgramKeeps p) (m : Method) (pl to : ℕ) (f f1 : T
           where
             by_own : (b : Bool) → named.built_in ≡ b → EI (instr.Invokespecial id) (calls_method (method_at p (special p m named id)) (special p m named id) (r ∷ reverse vs) to ls rest h)
             by_own false own = constructs_left named is con vs r rest e size own
-            by_own true own = constructor_asked named is con vs r rest e size own
+            by_own true own = built_left named is con vs r rest e size own
 
   -- ---- invokestatic
 
@@ -543,36 +588,49 @@ module _ (p : Program) (k : ProgramKeeps p) (m : Method) (pl to : ℕ) (f f1 : T
       declared_of : parameters_of named ≡ declared_parameters named.params named.qualifiers
       declared_of = ap (λ b. cond b (declared_parameters named.params named.qualifiers) (record { ty = class_type named.owner.0; qualifier = named.receiver } ∷ declared_parameters named.params named.qualifiers)) is_static
 
-      static_left : (vs rest : List Value) → st ≡ vs ++ rest → length vs ≡ length named.params → EI (instr.Invokestatic id) (calls_method (Some named) id (reverse vs) to ls rest h)
-      static_left vs rest e size = call_left p k m pl to f f1 g g1 at h ls st below after (instr.Invokestatic id) s static_edge named (k.sized id named is) static_deed static_raised named id is (reverse vs)
-          (subst (λ z. ArgsFit p h (named_by g at) (length g.nodes) z (reverse vs) (parameters_of named)) (sym params_of)
-          (subst (ArgsFit p h (named_by g at) (length g.nodes) (parameters named.params named.qualifiers (reverse (take (length named.params) g.stack)) (reverse (take (length named.params) f.stack))) (reverse vs)) (sym declared_of)
-          (params_fit p m h (named_by g at) (length g.nodes) k.flow named [] f.stack g.stack vs rest (ap (λ z. all_meet p z f.stack) (append_nil (arguments named)) ∙ static_taken.0) on_stack size (λ j n x. lives j n x) (k.sized id named is)
-          (ap (λ z. list_any (λ (a : Passed). not a.is_begun && mixes p a.ty (vtype.Object a.into)) z) (sym params_of)
-          ∙ Rattle.kilim_isolation_laws.proofs.graph_rows.Invoke.mixed p k m pl to f f1 g g1 at h ls st below after (instr.Invokestatic id) s static_edge named (k.sized id named is) static_deed static_raised))))
-          (k.sized id named is) refl rest
-          (subst (λ z. AreSlots p m h (named_by g at) (length g.nodes) (drop (takes_from named) f.stack) (drop (takes_from named) g.stack) z) (drop_front vs rest (takes_from named) (size ∙ sym (length-reverse named.params) ∙ sym (Rattle.kilim_isolation_laws.proofs.graph_rows.Invoke.length_map (reverse named.params)) ∙ sym (ap length (arguments_are p m h (named_by g at) (length g.nodes) named)) ∙ count_is))
-          (dropped p m h (named_by g at) (length g.nodes) (takes_from named) f.stack g.stack (vs ++ rest) on_stack))
-          (static_taken.1 ∙ ap (λ n. record f { stack = result_types named.result ++ drop n f.stack }) count_is)
-        where
-          on_stack : AreSlots p m h (named_by g at) (length g.nodes) f.stack g.stack (vs ++ rest)
-          on_stack = subst (λ z. AreSlots p m h (named_by g at) (length g.nodes) f.stack g.stack z) e s.0.holds.slots.on_stack
+      module _ (vs rest : List Value) (e : st ≡ vs ++ rest) (size : length vs ≡ length named.params) where
+        on_stack : AreSlots p m h (named_by g at) (length g.nodes) f.stack g.stack (vs ++ rest)
+        on_stack = subst (λ z. AreSlots p m h (named_by g at) (length g.nodes) f.stack g.stack z) e s.0.holds.slots.on_stack
 
-          lives : (j n : ℕ) → slot g.stack j ≡ Some n → is_gone (node_at g.nodes n).standing ≡ false
-          lives j n x = slot_lives g g.stack (not_true (list_any (names_gone g) g.stack) s.0.live) j n x
+        lives : (j n : ℕ) → slot g.stack j ≡ Some n → is_gone (node_at g.nodes n).standing ≡ false
+        lives j n x = slot_lives g g.stack (not_true (list_any (names_gone g) g.stack) s.0.live) j n x
 
-          drop_front : (xs ys : List Value) (n : ℕ) → length xs ≡ n → drop n (xs ++ ys) ≡ ys
-          drop_front [] ys zero q = refl
-          drop_front [] ys (suc n) q = absurd (omega arith)
-          drop_front (x ∷ xs) ys zero q = absurd (omega arith)
-          drop_front (x ∷ xs) ys (suc n) q = drop_front xs ys n (omega arith)
+        drop_front : (xs ys : List Value) (n : ℕ) → length xs ≡ n → drop n (xs ++ ys) ≡ ys
+        drop_front [] ys zero q = refl
+        drop_front [] ys (suc n) q = absurd (omega arith)
+        drop_front (x ∷ xs) ys zero q = absurd (omega arith)
+        drop_front (x ∷ xs) ys (suc n) q = drop_front xs ys n (omega arith)
+
+        static_asked : EI (instr.Invokestatic id) (Asks id (reverse vs) to ls rest h)
+        static_asked = asked_left p k m pl to f f1 g g1 at h ls st below after (instr.Invokestatic id) s static_edge named (k.sized id named is) static_deed static_raised named id is (reverse vs)
+            (subst (λ z. ArgsFit p h (named_by g at) (length g.nodes) z (reverse vs) (parameters_of named)) (sym params_of)
+            (subst (ArgsFit p h (named_by g at) (length g.nodes) (parameters named.params named.qualifiers (reverse (take (length named.params) g.stack)) (reverse (take (length named.params) f.stack))) (reverse vs)) (sym declared_of)
+            (params_fit p m h (named_by g at) (length g.nodes) k.flow named [] f.stack g.stack vs rest (ap (λ z. all_meet p z f.stack) (append_nil (arguments named)) ∙ static_taken.0) on_stack size (λ j n x. lives j n x) (k.sized id named is)
+            (ap (λ z. list_any (λ (a : Passed). not a.is_begun && mixes p a.ty (vtype.Object a.into)) z) (sym params_of)
+            ∙ Rattle.kilim_isolation_laws.proofs.graph_rows.Invoke.mixed p k m pl to f f1 g g1 at h ls st below after (instr.Invokestatic id) s static_edge named (k.sized id named is) static_deed static_raised))))
+            (k.sized id named is) refl rest
+            (subst (λ z. AreSlots p m h (named_by g at) (length g.nodes) (drop (takes_from named) f.stack) (drop (takes_from named) g.stack) z) (drop_front vs rest (takes_from named) (size ∙ sym (length-reverse named.params) ∙ sym (Rattle.kilim_isolation_laws.proofs.graph_rows.Invoke.length_map (reverse named.params)) ∙ sym (ap length (arguments_are p m h (named_by g at) (length g.nodes) named)) ∙ count_is))
+            (dropped p m h (named_by g at) (length g.nodes) (takes_from named) f.stack g.stack (vs ++ rest) on_stack))
+            (static_taken.1 ∙ ap (λ n. record f { stack = result_types named.result ++ drop n f.stack }) count_is)
+
+        static_begun : EI (instr.Invokestatic id) (Calls id (reverse vs) to ls rest h)
+        static_begun = called_left p k m pl to f f1 g g1 at h ls st below after (instr.Invokestatic id) s static_edge named (k.sized id named is) static_deed static_raised named id is (reverse vs)
+            (subst (λ z. ArgsFit p h (named_by g at) (length g.nodes) z (reverse vs) (parameters_of named)) (sym params_of)
+            (subst (ArgsFit p h (named_by g at) (length g.nodes) (parameters named.params named.qualifiers (reverse (take (length named.params) g.stack)) (reverse (take (length named.params) f.stack))) (reverse vs)) (sym declared_of)
+            (params_fit p m h (named_by g at) (length g.nodes) k.flow named [] f.stack g.stack vs rest (ap (λ z. all_meet p z f.stack) (append_nil (arguments named)) ∙ static_taken.0) on_stack size (λ j n x. lives j n x) (k.sized id named is)
+            (ap (λ z. list_any (λ (a : Passed). not a.is_begun && mixes p a.ty (vtype.Object a.into)) z) (sym params_of)
+            ∙ Rattle.kilim_isolation_laws.proofs.graph_rows.Invoke.mixed p k m pl to f f1 g g1 at h ls st below after (instr.Invokestatic id) s static_edge named (k.sized id named is) static_deed static_raised))))
+            (k.sized id named is) refl rest
+            (subst (λ z. AreSlots p m h (named_by g at) (length g.nodes) (drop (takes_from named) f.stack) (drop (takes_from named) g.stack) z) (drop_front vs rest (takes_from named) (size ∙ sym (length-reverse named.params) ∙ sym (Rattle.kilim_isolation_laws.proofs.graph_rows.Invoke.length_map (reverse named.params)) ∙ sym (ap length (arguments_are p m h (named_by g at) (length g.nodes) named)) ∙ count_is))
+            (dropped p m h (named_by g at) (length g.nodes) (takes_from named) f.stack g.stack (vs ++ rest) on_stack))
+            (static_taken.1 ∙ ap (λ n. record f { stack = result_types named.result ++ drop n f.stack }) count_is)
 
     pub invokestatic_h : ((named : Method) → method_at p id ≡ Some named → named.is_static ≡ true → is_handed_out p named ≡ false → named.built_in ≡ true → EI (instr.Invokestatic id) (takes_element to ls st h)) →
         EI (instr.Invokestatic id) (does p m (instr.Invokestatic id) to ls st h)
     unfolding does
     invokestatic_h take_h = some_h (EI (instr.Invokestatic id)) tt (λ c. tt) (λ c. tt) (method_at p id) _ (λ named is. cond_h (EI (instr.Invokestatic id)) tt (λ c. tt) (λ c. tt) (is_handed_out p named) _ _
         (λ out. values_h (EI (instr.Invokestatic id)) tt (λ c. tt) (λ c. tt) (length named.params) st _ (λ vs rest e size.
-        subst (λ b. EI (instr.Invokestatic id) (cond b (Rattle.kilim_run_machine.specs.Effect.Asks id (reverse vs) to ls rest h) (Rattle.kilim_run_machine.specs.Effect.Calls id (reverse vs) to ls rest h))) (and_left named.built_in _ out) (static_left named is vs rest e size)))
+        static_asked named is vs rest e size))
         (λ other. cond_h (EI (instr.Invokestatic id)) tt (λ c. tt) (λ c. tt) named.built_in _ _ (λ built. take_h named is (is_static named is) other built)
         (λ own. values_h (EI (instr.Invokestatic id)) tt (λ c. tt) (λ c. tt) (length named.params) st _ (λ vs rest e size.
-        subst (λ b. EI (instr.Invokestatic id) (cond b (Rattle.kilim_run_machine.specs.Effect.Asks id (reverse vs) to ls rest h) (Rattle.kilim_run_machine.specs.Effect.Calls id (reverse vs) to ls rest h))) own (static_left named is vs rest e size)))))
+        static_begun named is vs rest e size))))

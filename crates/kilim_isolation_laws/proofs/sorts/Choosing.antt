@@ -34,7 +34,7 @@ use Rattle.kilim_type_laws.proofs.members.ClassMethods.{IsAmong, owner_has}
 use Rattle.kilim_type_laws.proofs.members.Finding.{finds}
 use Rattle.kilim_type_laws.proofs.members.FromKeeps.{all_at}
 use Rattle.kilim_type_laws.proofs.members.Through.{cases, message_at, message_top, object_at, object_top}
-use Rattle.kilim_isolation_laws.specs.graph_rows.Holds.{Sort, sort_by, type_sort}
+use Rattle.kilim_isolation_laws.specs.graph_rows.Holds.{sort_by, type_sort}
 use Rattle.kilim_isolation_laws.specs.graph_rows.Facts.{Agrees, ChoosesWell}
 use Rattle.kilim_isolation_laws.proofs.sorts.Lines.{in_line}
 
@@ -117,7 +117,7 @@ module _ (p : Program) (keeps : Keeps p) where
     not_object f m at other e = let c = (of_object f m at e).0 in cc
 
     named_itself : Answer id
-    named_itself = (named, there, record { params = refl; qualifiers = refl; result = refl; instance = instance; quality_is = refl; sort_is = refl; sized = sizes p keeps id named there })
+    named_itself = (named, there, record { params = refl; qualifiers = refl; result = refl; instance = instance; plain = plain; quality_is = refl; sort_is = refl; sized = sizes p keeps id named there })
 
     -- what is found in a line
     found_one : (k : ClassId) (f : MethodId) → list_any (λ (d : ClassId). eqb d.0 named.owner.0) (line_of p k) ≡ true → IsChosen p k named f → Answer f
@@ -129,6 +129,7 @@ module _ (p : Program) (keeps : Keeps p) where
         qualifiers = c.qualifiers;
         result = c.result;
         instance = c.is_static ∙ instance;
+        plain = ap (λ (n : List ℕ). bytes_eq n (codes "<init>")) c.name ∙ plain;
         quality_is = ap (λ (q : Qualifier). quality p (class_type c.method.owner.0) q) c.receiver ∙ ap (λ (k : Kind). cond (is_tree_kind k) (Some named.receiver) None) kinds;
         sort_is = class_sort p c.method.owner named.owner kinds;
         sized = sizes p keeps f c.method c.there;

@@ -13,8 +13,8 @@ use Rattle.kilim_program.specs.declared.ty.Qualifier.{Qualifier}
 use Rattle.kilim_program.specs.declared.ty.Qualifier.TheVariants.{Cuttable, Safe}
 use Rattle.kilim_program.specs.declared.ty.Ty.{Ty}
 use Rattle.kilim_program.specs.Program.{Program}
-use Rattle.kilim_program.proofs.BuiltIns.{constructors_too}
-use Rattle.kilim_program.specs.BuiltIn.{built_in_methods_in, class_id, exception_numbers, fiber_methods}
+use Rattle.kilim_program.proofs.BuiltIns.{exceptions_too}
+use Rattle.kilim_program.specs.BuiltIn.{built_in_methods_in, class_id, fiber_methods}
 use Rattle.kilim_program.specs.Kinds.{class_kind}
 use Rattle.kilim_program.specs.Keeps.{Keeps}
 use Rattle.kilim_program.specs.Names.{class_name, method_at}
@@ -42,10 +42,10 @@ abbrev TakesSo : ℕ → Method → Type 0
 TakesSo n m = OfStatic n m.is_static m.params m.qualifiers
 
 so_plain : (n : ℕ) → AllByRecursion (TakesSo n) (built_in_methods_in Plain n)
-so_plain n = (tt, (tt, (tt, (tt, (tt, (tt, (tt, (tt, (tt, (tt, (tt, (tt, (tt, (tt, (tt, (tt, (tt, (tt, (tt, ((refl, refl), constructors_too (TakesSo n) n exception_numbers [] (λ c. tt) tt))))))))))))))))))))
+so_plain n = (tt, (tt, (tt, (tt, (tt, (tt, (tt, (tt, (tt, (tt, (tt, (tt, (tt, (tt, (tt, (tt, (tt, (tt, (tt, ((refl, refl), exceptions_too (TakesSo n) n [] (λ c. tt) (λ c. tt) tt tt))))))))))))))))))))
 
 so_woven : (n : ℕ) → AllByRecursion (TakesSo n) (built_in_methods_in Woven n)
-so_woven n = (tt, (tt, (tt, (tt, (tt, (tt, (tt, (tt, (tt, (tt, (tt, (tt, (tt, (tt, (tt, (tt, (tt, (tt, (tt, ((refl, refl), constructors_too (TakesSo n) n exception_numbers (fiber_methods Woven n) (λ c. tt) (tt, (tt, (tt, (tt, (tt, (tt, (tt, (tt, (tt, (tt, (tt, tt)))))))))))))))))))))))))))))))
+so_woven n = (tt, (tt, (tt, (tt, (tt, (tt, (tt, (tt, (tt, (tt, (tt, (tt, (tt, (tt, (tt, (tt, (tt, (tt, (tt, ((refl, refl), exceptions_too (TakesSo n) n (fiber_methods Woven n) (λ c. tt) (λ c. tt) tt (tt, (tt, (tt, (tt, (tt, (tt, (tt, (tt, (tt, (tt, (tt, tt)))))))))))))))))))))))))))))))
 
 so : (form : Form) (n : ℕ) → AllByRecursion (TakesSo n) (built_in_methods_in form n)
 so Plain n = so_plain n

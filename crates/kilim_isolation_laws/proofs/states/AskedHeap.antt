@@ -11,16 +11,18 @@ use Rattle.kilim_program.specs.declared.names.MethodId.{MethodId}
 use Rattle.kilim_program.specs.declared.ty.Ty.{Ty}
 use Rattle.kilim_program.specs.declared.value.Value.{Value}
 use Rattle.kilim_program.specs.declared.value.Value.TheVariants.{Int, Long, Null, Ref, Text, Box, Fiber}
+use Rattle.kilim_program.specs.BuiltIn.{message_field}
+use Rattle.kilim_run_state.specs.Shapes.{field_in}
 use Rattle.kilim_program.specs.Names.{method_at}
 use Rattle.kilim_program.specs.Lengths.{fetched}
 use Rattle.kilim_run_state.specs.declared.cause.EndCause.TheVariants as cause
 use Rattle.kilim_run_state.specs.Machine.{Objects, Activation}
-use Rattle.kilim_run_machine.specs.Natives.{is_built_in_constructor, is_handed_out, is_text_method}
+use Rattle.kilim_run_machine.specs.Natives.{is_built_in_constructor, is_get_message, is_handed_out, is_message_constructor, is_text_method}
 use Rattle.kilim_run_machine.specs.Effect.{Effect, Goes, Makes, Opens, Calls, Asks, Returns, Raises, Throws, Ends, Stuck, with_some, on_value, on_values, on_receiver, as_receiver, as_class, text_of}
-use Rattle.kilim_run_machine.specs.Does.{does, chosen, calls_method, calls_on, special, calls_text, takes_element, text_answers, at_unit, unit_at}
+use Rattle.kilim_run_machine.specs.Does.{does, chosen, calls_built_in, calls_method, calls_on, gives_message, keeps_message, special, calls_text, takes_element, text_answers, at_unit, unit_at}
 use Rattle.kilim_run_machine.specs.Moves.{Move, effect_of, effect_in, effect_found, entered, frame_limit, goes_on, move_by, moves, receiver_of, returned}
 use Rattle.kilim_run_machine.specs.Moves as move
-use Rattle.kilim_isolation_laws.proofs.at_rest.Quiet.{NoAsk, AsksNothing, is_call, no_if, no_when, no_some, no_int, no_receiver, no_on_int, no_on_object, no_on_receiver, no_index, no_ask}
+use Rattle.kilim_isolation_laws.proofs.at_rest.Quiet.{NoAsk, AsksNothing, is_call, no_if, no_when, no_some, no_int, no_receiver, no_on_int, no_object, no_on_object, no_on_receiver, no_index, no_ask}
 
 abbrev SameHeap : Objects → Effect → Type 0
 SameHeap h (Asks m args place locals stack k) = k ≡ h
@@ -73,9 +75,22 @@ module _ (h : Objects) where
   on_receiver_stays : (st : List Value) (go : Value → List Value → Effect) → ((r : Value) (rest : List Value) → AskStays h (go r rest)) → AskStays h (on_receiver st go)
   on_receiver_stays st go f = value_stays st (λ v rest. as_receiver v (λ r. go r rest)) (λ v rest. receiver_stays v (λ r. go r rest) (λ r. f r rest))
 
+  keeps_quiet : (args : List Value) (next : ℕ) (locals rest : List Value) → NoAsk (keeps_message args next locals rest h)
+  keeps_quiet [] next locals rest = record { holds = tt }
+  keeps_quiet (v ∷ []) next locals rest = record { holds = tt }
+  keeps_quiet (v ∷ w ∷ []) next locals rest = no_object v h _ (λ n object. no_some (field_in object.fields message_field) _ (λ old. record { holds = tt }))
+  keeps_quiet (v ∷ w ∷ x ∷ xs) next locals rest = record { holds = tt }
+
+  gives_quiet : (args : List Value) (next : ℕ) (locals rest : List Value) → NoAsk (gives_message args next locals rest h)
+  gives_quiet [] next locals rest = record { holds = tt }
+  gives_quiet (v ∷ []) next locals rest = no_object v h _ (λ n object. no_some (field_in object.fields message_field) _ (λ w. record { holds = tt }))
+  gives_quiet (v ∷ w ∷ ws) next locals rest = record { holds = tt }
+
   method_stays : (o : Option Method) (m : MethodId) (args : List Value) (next : ℕ) (locals rest : List Value) → AskStays h (calls_method o m args next locals rest h)
   method_stays None m args next locals rest = record { same = tt }
-  method_stays (Some method) m args next locals rest = if_stays method.built_in (Asks m args next locals rest h) (Calls m args next locals rest h) (record { same = refl }) (record { same = tt })
+  method_stays (Some method) m args next locals rest = if_stays method.built_in (calls_built_in method m args next locals rest h) (Calls m args next locals rest h)
+      (if_stays (is_message_constructor method) _ _ (quiet_stays _ (keeps_quiet args next locals rest)) (if_stays (is_get_message method) _ _ (quiet_stays _ (gives_quiet args next locals rest)) (record { same = refl })))
+      (record { same = tt })
 
   module _ (p : Program) (named : Method) (m : MethodId) (args : List Value) (next : ℕ) (locals rest : List Value) where
     class_stays : (receiver : Value) (ty : Option Ty) → AskStays h (calls_on p named m args next locals rest h receiver ty)

@@ -6,15 +6,15 @@ use Rattle.kilim_program.specs.declared.class.Form.TheVariants.{Plain}
 use Rattle.kilim_program.specs.declared.class.Method.{Method}
 use Rattle.kilim_program.specs.declared.names.MethodId.{MethodId}
 use Rattle.kilim_program.specs.declared.ty.Qualifier.TheVariants.{Free}
-use Rattle.kilim_program.specs.BuiltIn.{built_in_constructor, built_in_methods_in, class_id, class_type, exception_numbers}
+use Rattle.kilim_program.specs.BuiltIn.{built_in_constructor, built_in_methods_in, class_id, class_type, get_message, message_constructor}
 use Rattle.kilim_program.specs.Keeps.{Keeps}
 use Rattle.kilim_program.specs.Names.{◌>>=◌, class_name, method_at}
 use Rattle.kilim_program.specs.Program.{Program}
-use Rattle.kilim_program.proofs.BuiltIns.{constructors_too}
+use Rattle.kilim_program.proofs.BuiltIns.{exceptions_too}
 use Rattle.kilim_run_machine.specs.Natives.{Native, native_in, native_method, native_of}
 use Rattle.kilim_run_machine.specs.Natives as native
 use Rattle.kilim_type_sound.proofs.BuiltInMembers.{NamedAt, named_at}
-use Rattle.kilim_isolation_laws.proofs.typed_threads.fine.Natives.{built_in_one, first, object_name, task_name}
+use Rattle.kilim_isolation_laws.proofs.typed_threads.fine.Natives.{built_in_one, first, message_is_none, object_name, task_name}
 
 pub record PutIs (n : ℕ) (m : Method) : Type 0 where
   pub instance : m.is_static ≡ false
@@ -59,7 +59,7 @@ module _ (p : Program) (n : ℕ) where
 module _ (p : Program) (n : ℕ) (object : class_name p (class_id n) ≡ codes "java/lang/Object") (string : class_name p (class_id (n + 1)) ≡ codes "java/lang/String") (task : class_name p (class_id (n + 4)) ≡ codes "kilim/Task")
     (mailbox : class_name p (class_id (n + 5)) ≡ codes "kilim/Mailbox") (sys : class_name p (class_id (n + 6)) ≡ codes "kilim/Sys") where
   all_take : AllByRecursion (TakesAs p n) (built_in_methods_in Plain n)
-  all_take = (as_none p n _ (codes "java/lang/Object") object refl, (as_none p n _ (codes "java/lang/String") string refl, (as_none p n _ (codes "java/lang/String") string refl, (as_none p n _ (codes "java/lang/String") string refl, (as_none p n _ (codes "kilim/Task") task refl, (as_some p n _ (codes "kilim/Task") native.Start task refl (record { instance = refl; owner = refl; receiver = refl; params = refl; qualifiers = refl }), (as_some p n _ (codes "kilim/Task") native.Execute task refl tt, (as_none p n _ (codes "kilim/Mailbox") mailbox refl, (as_some p n _ (codes "kilim/Mailbox") native.Bound mailbox refl tt, (as_some p n _ (codes "kilim/Mailbox") native.Put mailbox refl (record { instance = refl; owner = refl; params = refl; qualifiers = refl }), (as_some p n _ (codes "kilim/Mailbox") native.PutWait mailbox refl (record { instance = refl; owner = refl; params = refl; qualifiers = refl }), (as_some p n _ (codes "kilim/Mailbox") native.Get mailbox refl tt, (as_some p n _ (codes "kilim/Mailbox") native.Getnb mailbox refl tt, (as_some p n _ (codes "kilim/Sys") native.Print sys refl tt, (as_some p n _ (codes "kilim/Sys") native.Print sys refl tt, (as_some p n _ (codes "kilim/Sys") native.Print sys refl tt, (as_some p n _ (codes "kilim/Sys") native.Yield sys refl tt, (as_some p n _ (codes "kilim/Sys") native.ArgCount sys refl tt, (as_some p n _ (codes "kilim/Sys") native.Arg sys refl tt, (as_none p n _ (codes "kilim/Sys") sys refl, constructors_too (TakesAs p n) n exception_numbers [] (λ c. as_none p n (built_in_constructor c) (class_name p c) refl refl) tt))))))))))))))))))))
+  all_take = (as_none p n _ (codes "java/lang/Object") object refl, (as_none p n _ (codes "java/lang/String") string refl, (as_none p n _ (codes "java/lang/String") string refl, (as_none p n _ (codes "java/lang/String") string refl, (as_none p n _ (codes "kilim/Task") task refl, (as_some p n _ (codes "kilim/Task") native.Start task refl (record { instance = refl; owner = refl; receiver = refl; params = refl; qualifiers = refl }), (as_some p n _ (codes "kilim/Task") native.Execute task refl tt, (as_none p n _ (codes "kilim/Mailbox") mailbox refl, (as_some p n _ (codes "kilim/Mailbox") native.Bound mailbox refl tt, (as_some p n _ (codes "kilim/Mailbox") native.Put mailbox refl (record { instance = refl; owner = refl; params = refl; qualifiers = refl }), (as_some p n _ (codes "kilim/Mailbox") native.PutWait mailbox refl (record { instance = refl; owner = refl; params = refl; qualifiers = refl }), (as_some p n _ (codes "kilim/Mailbox") native.Get mailbox refl tt, (as_some p n _ (codes "kilim/Mailbox") native.Getnb mailbox refl tt, (as_some p n _ (codes "kilim/Sys") native.Print sys refl tt, (as_some p n _ (codes "kilim/Sys") native.Print sys refl tt, (as_some p n _ (codes "kilim/Sys") native.Print sys refl tt, (as_some p n _ (codes "kilim/Sys") native.Yield sys refl tt, (as_some p n _ (codes "kilim/Sys") native.ArgCount sys refl tt, (as_some p n _ (codes "kilim/Sys") native.Arg sys refl tt, (as_none p n _ (codes "kilim/Sys") sys refl, exceptions_too (TakesAs p n) n [] (λ c. as_none p n (built_in_constructor c) (class_name p c) refl refl) (λ c. as_none p n (message_constructor n c) (class_name p c) refl (message_is_none (class_name p c) (message_constructor n c) refl)) (as_none p n (get_message n) (class_name p (class_id (n + 7))) refl (message_is_none (class_name p (class_id (n + 7))) (get_message n) refl)) tt))))))))))))))))))))
 
 string_at : (a b : ℕ) → NamedAt Plain a b 1 (codes "java/lang/String")
 string_at a b = record { class = _; at = refl; is = refl }

@@ -12,12 +12,12 @@ use Rattle.kilim_program.specs.declared.ty.Base.{Base}
 use Rattle.kilim_program.specs.declared.ty.Base.TheVariants as base
 use Rattle.kilim_program.specs.declared.ty.Ty.{Ty}
 use Rattle.kilim_program.specs.declared.value.Value.TheVariants.{Ref}
-use Rattle.kilim_program.specs.BuiltIn.{built_in_methods_in, class_id, class_type, exception_numbers}
+use Rattle.kilim_program.specs.BuiltIn.{built_in_methods_in, class_id, class_type}
 use Rattle.kilim_program.specs.Fits.{fits_type}
 use Rattle.kilim_program.specs.Keeps.{Keeps}
 use Rattle.kilim_program.specs.Names.{◌>>=◌, class_at, class_name, first_that, is_named_task, is_task, line_of, method_at}
 use Rattle.kilim_program.specs.Program.{Program}
-use Rattle.kilim_program.proofs.BuiltIns.{constructors_too}
+use Rattle.kilim_program.proofs.BuiltIns.{exceptions_too}
 use Rattle.kilim_program.specs.Same.{is_constructor, selected}
 use Rattle.kilim_run_machine.specs.Does.{chosen, chosen_by}
 use Rattle.kilim_run_state.specs.Machine.{Objects, Activation}
@@ -47,7 +47,7 @@ abbrev ExecutesAs : ℕ → Method → Type 0
 ExecutesAs n m = is_task_execute m ≡ true → IsExecute n m
 
 all_execute : (n : ℕ) → AllByRecursion (ExecutesAs n) (built_in_methods_in Plain n)
-all_execute n = ((λ e. absurd (let z : false ≡ true = e in cc)), ((λ e. absurd (let z : false ≡ true = e in cc)), ((λ e. absurd (let z : false ≡ true = e in cc)), ((λ e. absurd (let z : false ≡ true = e in cc)), ((λ e. absurd (let z : false ≡ true = e in cc)), ((λ e. absurd (let z : false ≡ true = e in cc)), ((λ e. record { owner = refl; params = refl; instance = refl; plain = refl; public = refl }), ((λ e. absurd (let z : false ≡ true = e in cc)), ((λ e. absurd (let z : false ≡ true = e in cc)), ((λ e. absurd (let z : false ≡ true = e in cc)), ((λ e. absurd (let z : false ≡ true = e in cc)), ((λ e. absurd (let z : false ≡ true = e in cc)), ((λ e. absurd (let z : false ≡ true = e in cc)), ((λ e. absurd (let z : false ≡ true = e in cc)), ((λ e. absurd (let z : false ≡ true = e in cc)), ((λ e. absurd (let z : false ≡ true = e in cc)), ((λ e. absurd (let z : false ≡ true = e in cc)), ((λ e. absurd (let z : false ≡ true = e in cc)), ((λ e. absurd (let z : false ≡ true = e in cc)), ((λ e. absurd (let z : false ≡ true = e in cc)), constructors_too (ExecutesAs n) n exception_numbers [] (λ c e. absurd (let z : false ≡ true = e in cc)) tt))))))))))))))))))))
+all_execute n = ((λ e. absurd (let z : false ≡ true = e in cc)), ((λ e. absurd (let z : false ≡ true = e in cc)), ((λ e. absurd (let z : false ≡ true = e in cc)), ((λ e. absurd (let z : false ≡ true = e in cc)), ((λ e. absurd (let z : false ≡ true = e in cc)), ((λ e. absurd (let z : false ≡ true = e in cc)), ((λ e. record { owner = refl; params = refl; instance = refl; plain = refl; public = refl }), ((λ e. absurd (let z : false ≡ true = e in cc)), ((λ e. absurd (let z : false ≡ true = e in cc)), ((λ e. absurd (let z : false ≡ true = e in cc)), ((λ e. absurd (let z : false ≡ true = e in cc)), ((λ e. absurd (let z : false ≡ true = e in cc)), ((λ e. absurd (let z : false ≡ true = e in cc)), ((λ e. absurd (let z : false ≡ true = e in cc)), ((λ e. absurd (let z : false ≡ true = e in cc)), ((λ e. absurd (let z : false ≡ true = e in cc)), ((λ e. absurd (let z : false ≡ true = e in cc)), ((λ e. absurd (let z : false ≡ true = e in cc)), ((λ e. absurd (let z : false ≡ true = e in cc)), ((λ e. absurd (let z : false ≡ true = e in cc)), exceptions_too (ExecutesAs n) n [] (λ c e. absurd (let z : false ≡ true = e in cc)) (λ c e. absurd (let z : false ≡ true = e in cc)) (λ e. absurd (let z : false ≡ true = e in cc)) tt))))))))))))))))))))
 
 record IsFound (test : Method → Bool) (ms : List Method) (m : Method) : Type 0 where
   place : ℕ

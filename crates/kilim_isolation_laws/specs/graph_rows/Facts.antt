@@ -13,7 +13,7 @@ use Rattle.kilim_program.specs.declared.value.Value.{Value}
 use Rattle.kilim_program.specs.declared.value.Value.TheVariants.{Ref}
 use Rattle.kilim_program.specs.declared.verified.VType.{VType}
 use Rattle.kilim_program.specs.Program.{Program}
-use Rattle.kilim_program.specs.BuiltIn.{class_type, plain_type}
+use Rattle.kilim_program.specs.BuiltIn.{class_type, message_field, plain_type}
 use Rattle.kilim_program.specs.Kinds.{class_kind, kind_of}
 use Rattle.kilim_program.specs.declared.ty.Base.TheVariants as base
 use Rattle.kilim_program.specs.declared.ty.Kind.TheVariants as kind
@@ -22,7 +22,7 @@ use Rattle.kilim_program.specs.declared.value.Value.TheVariants as value
 use Rattle.kilim_program.specs.declared.verified.VType.TheVariants.{Int, Null, Object}
 use Rattle.kilim_run_machine.specs.Effect.{is_wide}
 use Rattle.kilim_program.specs.Members.{named_type}
-use Rattle.kilim_run_machine.specs.Natives.{is_handed_out, is_text_method}
+use Rattle.kilim_run_machine.specs.Natives.{is_get_message, is_handed_out, is_message_constructor, is_text_method}
 use Rattle.kilim_run_state.specs.Machine.{Objects}
 use Rattle.kilim_program.specs.Names.{class_at, class_name, class_named, field_of, method_at}
 use Rattle.kilim_program.specs.Keeps.{constant_fits}
@@ -47,7 +47,7 @@ use Rattle.kilim_isolation_graph.specs.Entry.{quality}
 use Rattle.kilim_isolation_graph.specs.Graphs.{changed, node_of, added}
 use Rattle.kilim_isolation_rules.specs.Marks.{root_node}
 use Rattle.kilim_run_machine.specs.Raising.{is_throwable}
-use Rattle.kilim_isolation_laws.specs.graph_rows.Holds.{Holds, Waiting, Stands, KindsFlow, MayHold, Stuff, Tree, IsOf, ObjectFits, AreSlots, named_by, sort, object_sort, field_sort, type_sort, trees}
+use Rattle.kilim_isolation_laws.specs.graph_rows.Holds.{Holds, Waiting, Stands, KindsFlow, MayHold, Stuff, Tree, Word, IsOf, ObjectFits, AreSlots, named_by, sort, object_sort, field_sort, type_sort, trees}
 use Rattle.kilim_isolation_laws.specs.graph_rows.Outcome.{Left, EffectHolds}
 
 -- the method that runs agrees with the one that the code names
@@ -56,6 +56,7 @@ pub record Agrees (p : Program) (named callee : Method) : Type 0 where
   pub qualifiers : callee.qualifiers ≡ named.qualifiers
   pub result : callee.result ≡ named.result
   pub instance : callee.is_static ≡ false
+  pub plain : is_constructor callee ≡ false
   pub quality_is : quality p (class_type callee.owner.0) callee.receiver ≡ quality p (class_type named.owner.0) named.receiver
   pub sort_is : type_sort p (class_type callee.owner.0) ≡ type_sort p (class_type named.owner.0)
   pub sized : length callee.qualifiers ≡ length callee.params
@@ -85,6 +86,11 @@ pub record ProgramKeeps (p : Program) : Type 0 where
   -- a method of strings answers an int
   pub texts : (id : MethodId) (named : Method) → method_at p id ≡ Some named → is_text_method p named ≡ true → named.is_static ≡ false → is_constructor named ≡ false →
       (ty : Ty) × (named.result ≡ Some ty) × (vtype ty ≡ Int) × (kind_of p ty ≡ kind.Value)
+  -- the message of an exception is a value: as a field, as what is handed to be kept, and as what is given
+  pub message : field_sort p message_field ≡ Word
+  pub keeps_messages : (id : MethodId) (named : Method) → method_at p id ≡ Some named → is_message_constructor named ≡ true → (ty : Ty) × (named.params ≡ ty ∷ []) × (type_sort p ty ≡ Word)
+  pub gives_messages : (id : MethodId) (named : Method) → method_at p id ≡ Some named → is_get_message named ≡ true →
+      (ty : Ty) × (named.result ≡ Some ty) × (type_sort p ty ≡ Word) × (kind_of p ty ≡ kind.Value)
   -- a static built-in method that isn't handed out is `Sys.take`
   pub takes : (id : MethodId) (named : Method) → method_at p id ≡ Some named → named.built_in ≡ true → named.is_static ≡ true → is_handed_out p named ≡ false → IsTake p named
   -- a class that is found by the name of strings has it

@@ -10,8 +10,8 @@ use Rattle.kilim_program.specs.declared.names.ClassId.{ClassId}
 use Rattle.kilim_program.specs.declared.ty.Base.{Base}
 use Rattle.kilim_program.specs.declared.ty.Base.TheVariants as base
 use Rattle.kilim_program.specs.declared.ty.Ty.{Ty}
-use Rattle.kilim_program.specs.BuiltIn.{built_in_class, built_in_classes_in, built_in_methods_in, class_id, methods_from}
-use Rattle.kilim_program.specs.Keeps.{class_ids_there, has_base, has_class, has_method, has_superclass, has_type, types_of_method}
+use Rattle.kilim_program.specs.BuiltIn.{built_in_class, built_in_classes_in, built_in_methods_in, class_id, message_field, methods_before_exceptions, methods_from, throwable_class}
+use Rattle.kilim_program.specs.Keeps.{class_ids_there, has_base, has_class, has_field, has_method, has_superclass, has_type, types_of_method}
 use Rattle.kilim_program.specs.Program.{Program}
 use Rattle.kilim_link_laws.proofs.code_laws.Lists.{list_all_same}
 
@@ -30,8 +30,8 @@ class_count Plain = 18
 class_count Woven = 19
 
 abbrev pub method_count : Form → ℕ
-method_count Plain = 31
-method_count Woven = 42
+method_count Plain = 43
+method_count Woven = 54
 
 pub class_total : (form : Form) (n m : ℕ) → length (built_in_classes_in form n m) ≡ class_count form
 class_total Plain n m = refl
@@ -88,11 +88,14 @@ module _ (p : Program) where
       → class_ids_there p (built_in_class [] superclass false (methods_from m ks)) ≡ true
   one_class m count room superclass ks up e = and_from _ _ up (methods_there m count room ks e)
 
-  pub built_in_classes_there : (form : Form) (n m : ℕ) → n + class_count form ≤ length p.classes → m + method_count form ≤ length p.methods → list_all (class_ids_there p) (built_in_classes_in form n m) ≡ true
-  built_in_classes_there Plain n m room more =
+  pub built_in_classes_there : (form : Form) (n m : ℕ) → n + class_count form ≤ length p.classes → m + method_count form ≤ length p.methods → has_field p message_field ≡ true
+      → list_all (class_ids_there p) (built_in_classes_in form n m) ≡ true
+  built_in_classes_there Plain n m room more field =
       let up = object_there Plain n room in
       let other = class_at_place n (class_count Plain) room in
-      let one = one_class m 31 more in
+      let one = one_class m 43 more in
+      let throwable : has_class p (class_id n) ≡ true → class_ids_there p (throwable_class n m methods_before_exceptions) ≡ true =
+      λ e. and_from _ _ e (and_from _ _ (and_from _ _ field refl) (methods_there m 43 more (20 ∷ 21 ∷ 22 ∷ []) refl)) in
       and_from _ _ (one None (0 ∷ []) refl refl)
       (and_from _ _ (one (Some (class_id n)) (1 ∷ 2 ∷ 3 ∷ []) up refl)
       (and_from _ _ (one (Some (class_id n)) [] up refl)
@@ -100,21 +103,23 @@ module _ (p : Program) where
       (and_from _ _ (one (Some (class_id n)) (4 ∷ 5 ∷ 6 ∷ []) up refl)
       (and_from _ _ (one (Some (class_id n)) (7 ∷ 8 ∷ 9 ∷ 10 ∷ 11 ∷ 12 ∷ []) up refl)
       (and_from _ _ (one (Some (class_id n)) (13 ∷ 14 ∷ 15 ∷ 16 ∷ 17 ∷ 18 ∷ 19 ∷ []) up refl)
-      (and_from _ _ (one (Some (class_id n)) (20 ∷ []) up refl)
-      (and_from _ _ (one (Some (class_id (n + 7))) (21 ∷ []) (other 7 (omega arith)) refl)
-      (and_from _ _ (one (Some (class_id (n + 8))) (22 ∷ []) (other 8 (omega arith)) refl)
-      (and_from _ _ (one (Some (class_id (n + 9))) (23 ∷ []) (other 9 (omega arith)) refl)
-      (and_from _ _ (one (Some (class_id (n + 9))) (24 ∷ []) (other 9 (omega arith)) refl)
-      (and_from _ _ (one (Some (class_id (n + 9))) (25 ∷ []) (other 9 (omega arith)) refl)
-      (and_from _ _ (one (Some (class_id (n + 9))) (26 ∷ []) (other 9 (omega arith)) refl)
-      (and_from _ _ (one (Some (class_id (n + 9))) (27 ∷ []) (other 9 (omega arith)) refl)
-      (and_from _ _ (one (Some (class_id (n + 9))) (28 ∷ []) (other 9 (omega arith)) refl)
-      (and_from _ _ (one (Some (class_id (n + 15))) (29 ∷ []) (other 15 (omega arith)) refl)
-      (and_from _ _ (one (Some (class_id (n + 15))) (30 ∷ []) (other 15 (omega arith)) refl) refl)))))))))))))))))
-  built_in_classes_there Woven n m room more =
+      (and_from _ _ (throwable up)
+      (and_from _ _ (one (Some (class_id (n + 7))) (23 ∷ 24 ∷ []) (other 7 (omega arith)) refl)
+      (and_from _ _ (one (Some (class_id (n + 8))) (25 ∷ 26 ∷ []) (other 8 (omega arith)) refl)
+      (and_from _ _ (one (Some (class_id (n + 9))) (27 ∷ 28 ∷ []) (other 9 (omega arith)) refl)
+      (and_from _ _ (one (Some (class_id (n + 9))) (29 ∷ 30 ∷ []) (other 9 (omega arith)) refl)
+      (and_from _ _ (one (Some (class_id (n + 9))) (31 ∷ 32 ∷ []) (other 9 (omega arith)) refl)
+      (and_from _ _ (one (Some (class_id (n + 9))) (33 ∷ 34 ∷ []) (other 9 (omega arith)) refl)
+      (and_from _ _ (one (Some (class_id (n + 9))) (35 ∷ 36 ∷ []) (other 9 (omega arith)) refl)
+      (and_from _ _ (one (Some (class_id (n + 9))) (37 ∷ 38 ∷ []) (other 9 (omega arith)) refl)
+      (and_from _ _ (one (Some (class_id (n + 15))) (39 ∷ 40 ∷ []) (other 15 (omega arith)) refl)
+      (and_from _ _ (one (Some (class_id (n + 15))) (41 ∷ 42 ∷ []) (other 15 (omega arith)) refl) refl)))))))))))))))))
+  built_in_classes_there Woven n m room more field =
       let up = object_there Woven n room in
       let other = class_at_place n (class_count Woven) room in
-      let one = one_class m 42 more in
+      let one = one_class m 54 more in
+      let throwable : has_class p (class_id n) ≡ true → class_ids_there p (throwable_class n m methods_before_exceptions) ≡ true =
+      λ e. and_from _ _ e (and_from _ _ (and_from _ _ field refl) (methods_there m 54 more (20 ∷ 21 ∷ 22 ∷ []) refl)) in
       and_from _ _ (one None (0 ∷ []) refl refl)
       (and_from _ _ (one (Some (class_id n)) (1 ∷ 2 ∷ 3 ∷ []) up refl)
       (and_from _ _ (one (Some (class_id n)) [] up refl)
@@ -122,15 +127,15 @@ module _ (p : Program) where
       (and_from _ _ (one (Some (class_id n)) (4 ∷ 5 ∷ 6 ∷ []) up refl)
       (and_from _ _ (one (Some (class_id n)) (7 ∷ 8 ∷ 9 ∷ 10 ∷ 11 ∷ 12 ∷ []) up refl)
       (and_from _ _ (one (Some (class_id n)) (13 ∷ 14 ∷ 15 ∷ 16 ∷ 17 ∷ 18 ∷ 19 ∷ []) up refl)
-      (and_from _ _ (one (Some (class_id n)) (20 ∷ []) up refl)
-      (and_from _ _ (one (Some (class_id (n + 7))) (21 ∷ []) (other 7 (omega arith)) refl)
-      (and_from _ _ (one (Some (class_id (n + 8))) (22 ∷ []) (other 8 (omega arith)) refl)
-      (and_from _ _ (one (Some (class_id (n + 9))) (23 ∷ []) (other 9 (omega arith)) refl)
-      (and_from _ _ (one (Some (class_id (n + 9))) (24 ∷ []) (other 9 (omega arith)) refl)
-      (and_from _ _ (one (Some (class_id (n + 9))) (25 ∷ []) (other 9 (omega arith)) refl)
-      (and_from _ _ (one (Some (class_id (n + 9))) (26 ∷ []) (other 9 (omega arith)) refl)
-      (and_from _ _ (one (Some (class_id (n + 9))) (27 ∷ []) (other 9 (omega arith)) refl)
-      (and_from _ _ (one (Some (class_id (n + 9))) (28 ∷ []) (other 9 (omega arith)) refl)
-      (and_from _ _ (one (Some (class_id (n + 15))) (29 ∷ []) (other 15 (omega arith)) refl)
-      (and_from _ _ (one (Some (class_id (n + 15))) (30 ∷ []) (other 15 (omega arith)) refl)
-      (and_from _ _ (one (Some (class_id n)) (31 ∷ 32 ∷ 33 ∷ 34 ∷ 35 ∷ 36 ∷ 37 ∷ 38 ∷ 39 ∷ 40 ∷ 41 ∷ []) up refl) refl))))))))))))))))))
+      (and_from _ _ (throwable up)
+      (and_from _ _ (one (Some (class_id (n + 7))) (23 ∷ 24 ∷ []) (other 7 (omega arith)) refl)
+      (and_from _ _ (one (Some (class_id (n + 8))) (25 ∷ 26 ∷ []) (other 8 (omega arith)) refl)
+      (and_from _ _ (one (Some (class_id (n + 9))) (27 ∷ 28 ∷ []) (other 9 (omega arith)) refl)
+      (and_from _ _ (one (Some (class_id (n + 9))) (29 ∷ 30 ∷ []) (other 9 (omega arith)) refl)
+      (and_from _ _ (one (Some (class_id (n + 9))) (31 ∷ 32 ∷ []) (other 9 (omega arith)) refl)
+      (and_from _ _ (one (Some (class_id (n + 9))) (33 ∷ 34 ∷ []) (other 9 (omega arith)) refl)
+      (and_from _ _ (one (Some (class_id (n + 9))) (35 ∷ 36 ∷ []) (other 9 (omega arith)) refl)
+      (and_from _ _ (one (Some (class_id (n + 9))) (37 ∷ 38 ∷ []) (other 9 (omega arith)) refl)
+      (and_from _ _ (one (Some (class_id (n + 15))) (39 ∷ 40 ∷ []) (other 15 (omega arith)) refl)
+      (and_from _ _ (one (Some (class_id (n + 15))) (41 ∷ 42 ∷ []) (other 15 (omega arith)) refl)
+      (and_from _ _ (one (Some (class_id n)) (43 ∷ 44 ∷ 45 ∷ 46 ∷ 47 ∷ 48 ∷ 49 ∷ 50 ∷ 51 ∷ 52 ∷ 53 ∷ []) up refl) refl))))))))))))))))))

@@ -112,7 +112,8 @@ pub record Counts (w : World) (p : Program) : Type 0 where
   pub outline : length w.outline.classes ≡ length p.classes
   pub classes : length w.classes ≡ length p.classes
   pub methods : sum_by count_methods w.classes ≡ length p.methods
-  pub fields : sum_by count_fields w.classes ≡ length p.fields
+  -- the first field of a program is built in
+  pub fields : suc (sum_by count_fields w.classes) ≡ length p.fields
 
 methods_count : (files : List ClassFile) (form : Form) (p : Program) → Parts files form p → sum_by count_methods (world_of files form).classes ≡ length p.methods
 unfolding world_of
@@ -127,7 +128,7 @@ methods_count files form p parts =
     let all : length p.methods ≡ length (parts.methods ++ built_in_methods_in form (length files)) = ap (λ (q : Program). length q.methods) parts.is in
     omega (arith, sum, own, there, others, both, all)
 
-fields_count : (files : List ClassFile) (form : Form) (p : Program) → Parts files form p → sum_by count_fields (world_of files form).classes ≡ length p.fields
+fields_count : (files : List ClassFile) (form : Form) (p : Program) → Parts files form p → suc (sum_by count_fields (world_of files form).classes) ≡ length p.fields
 unfolding world_of
 fields_count files form p parts =
     let w = world_of files form in
@@ -136,7 +137,7 @@ fields_count files form p parts =
     let own = members_count (λ file. file.fields) (linked_field w) count_fields (λ file. length-map file.fields (declared_field file)) 0 files in
     let there = each_of_length itself (flat_map itself (numbered (λ file c. map (linked_field w file c) file.fields) 0 files)) parts.fields parts.fields_are in
     let others = built_in_fields_count form in
-    let all : length p.fields ≡ length parts.fields = ap (λ (q : Program). length q.fields) parts.is in
+    let all : length p.fields ≡ suc (length parts.fields) = ap (λ (q : Program). length q.fields) parts.is in
     omega (arith, sum, own, there, others, all)
 
 pub counts : (files : List ClassFile) (form : Form) (p : Program) → Parts files form p → Counts (world_of files form) p

@@ -59,7 +59,7 @@ method_within w name descriptor c (Some v) k at e =
     let all = sum_within count_methods w.classes c.0 v at in
     omega (arith, place, all)
 
-field_within : (w : World) (name descriptor : List ℕ) (c : ClassId) (o : Option ClassView) (k : ℕ) → view_at w c ≡ o → position_from (is_field name descriptor) 0 (fields_at o) ≡ Some k → first_field w c + k < sum_by count_fields w.classes
+field_within : (w : World) (name descriptor : List ℕ) (c : ClassId) (o : Option ClassView) (k : ℕ) → view_at w c ≡ o → position_from (is_field name descriptor) 0 (fields_at o) ≡ Some k → first_field w c + k < suc (sum_by count_fields w.classes)
 field_within w name descriptor c None k at e = absurd (none-some k e)
 field_within w name descriptor c (Some v) k at e =
     let place = position_within (is_field name descriptor) 0 v.fields k e in

@@ -1,6 +1,6 @@
 -- Each id in a linked program is a place in its list.
-use Rattle.std.proofs.Common.{◌≡◌, ℕ, zero, suc, ◌+◌, ◌<◌, ◌≤◌, Bool, true, List, ◌++◌, length, map, Option, Some, None, refl, ap, sym, subst, ◌∙◌, arith}
-use Rattle.std.specs.Prelude.{◌&&◌}
+use Rattle.std.proofs.Common.{◌≡◌, ℕ, zero, suc, ◌+◌, ◌<◌, ◌≤◌, Bool, true, List, ◌++◌, length, map, Option, Some, None, refl, ap, sym, subst, ◌∙◌, lit<, arith}
+use Rattle.std.specs.Prelude.{◌&&◌, nat_lt}
 use Rattle.std.specs.List.{list_all, flat_map, range_with_len, AllByRecursion}
 use Rattle.std.proofs.lemmas.Bool.{and_from, lt-ltb}
 use Rattle.std.proofs.lemmas.List.{length-append, length-map}
@@ -12,9 +12,10 @@ use Rattle.kilim_class_file.specs.declared.class_file.MemberInfo.{MemberInfo}
 use Rattle.kilim_program.specs.declared.class.Class.{Class}
 use Rattle.kilim_program.specs.declared.class.Field.{Field}
 use Rattle.kilim_program.specs.declared.class.Form.{Form}
+use Rattle.kilim_program.specs.declared.class.Form.TheVariants.{Plain, Woven}
 use Rattle.kilim_program.specs.declared.class.Method.{Method}
 use Rattle.kilim_program.specs.declared.names.ClassId.{ClassId}
-use Rattle.kilim_program.specs.BuiltIn.{built_in_classes_in, built_in_methods_in, method_id}
+use Rattle.kilim_program.specs.BuiltIn.{built_in_classes_in, built_in_methods_in, class_id, message_field, method_id}
 use Rattle.kilim_program.specs.Keeps.{class_ids_there, has_class, has_field, has_method, has_type, ids_are_places, members_there, types_of_method}
 use Rattle.kilim_program.specs.Program.{Program}
 use Rattle.kilim_link_spec.specs.Code.{decoded}
@@ -101,6 +102,14 @@ module _ (w : World) (p : Program) (c : Counts w p) where
   field_types file class =
       all_map (λ f. GoodMention any_text (OfField (member_descriptor file f))) _ (field_passes w any_text (has_type p) (types_there w p c) file class) file.fields (nothing_asked file).fields
 
+one_less : (form : Form) → 1 < class_count form
+one_less Plain = lit< tt
+one_less Woven = lit< tt
+
+seven_less : (form : Form) → 7 < class_count form
+seven_less Plain = lit< tt
+seven_less Woven = lit< tt
+
 -- ---- all of it
 
 module _ (files : List ClassFile) (form : Form) (p : Program) (parts : Parts files form p) where
@@ -131,19 +140,27 @@ module _ (files : List ClassFile) (form : Form) (p : Program) (parts : Parts fil
       let built = method_total form n in
       omega (arith, all, both, built)
 
+  first_field_there : has_field p message_field ≡ true
+  first_field_there =
+      let many : length p.fields ≡ suc (length parts.fields) = ap (λ (q : Program). length q.fields) parts.is in
+      lt-ltb 0 (length p.fields) (omega (arith, many))
+
   classes_there : list_all (class_ids_there p) p.classes ≡ true
   classes_there =
       let each = each_file_map (ViewAt w.classes) _ (linked_class_ids w p c) 0 files views in
       let own = numbered_pass (class_ids_there p) (linked_class w) 0 files parts.classes each parts.classes_are in
       let built = built_in_classes_in form n (length parts.methods) in
       ap (λ (q : Program). list_all (class_ids_there p) q.classes) parts.is
-      ∙ (list_all-append (class_ids_there p) parts.classes built ∙ and_from _ _ own (built_in_classes_there p form n (length parts.methods) class_room method_room))
+      ∙ (list_all-append (class_ids_there p) parts.classes built ∙ and_from _ _ own (built_in_classes_there p form n (length parts.methods) class_room method_room first_field_there))
+
+  built_class : (k : ℕ) → k < class_count form → has_class p (class_id (n + k)) ≡ true
+  built_class k less = let room = class_room in lt-ltb (n + k) (length p.classes) (omega (arith, room, less))
 
   owners_there : list_all (λ f. has_class p f.owner) p.fields ≡ true
   owners_there =
       let test : Field → Bool = λ f. has_class p f.owner in
       let each = each_file_map (ViewAt w.classes) _ (λ file class at. all_from _ (field_owner w p c file class at) file.fields) 0 files views in
-      ap (λ (q : Program). list_all test q.fields) parts.is ∙ members_pass test (λ file. file.fields) (linked_field w) 0 files parts.fields each parts.fields_are
+      ap (λ (q : Program). list_all test q.fields) parts.is ∙ and_from _ _ (built_class 7 (seven_less form)) (members_pass test (λ file. file.fields) (linked_field w) 0 files parts.fields each parts.fields_are)
 
   methods_there : list_all (method_ids w p c) p.methods ≡ true
   methods_there =
@@ -158,7 +175,7 @@ module _ (files : List ClassFile) (form : Form) (p : Program) (parts : Parts fil
       let test : Field → Bool = λ f. has_type p f.ty in
       let each = each_file_map (ViewAt w.classes) _ (λ file class at. field_types w p c file class) 0 files views in
       let own = members_pass test (λ file. file.fields) (linked_field w) 0 files parts.fields each parts.fields_are in
-      list_all-map (has_type p) (λ (f : Field). f.ty) p.fields ∙ (ap (λ (q : Program). list_all test q.fields) parts.is ∙ own)
+      list_all-map (has_type p) (λ (f : Field). f.ty) p.fields ∙ (ap (λ (q : Program). list_all test q.fields) parts.is ∙ and_from _ _ (built_class 1 (one_less form)) own)
 
   types_of_methods : list_all (has_type p) (flat_map types_of_method p.methods) ≡ true
   types_of_methods =

@@ -8,7 +8,7 @@ use Rattle.kilim_program.specs.declared.names.ClassId.{ClassId}
 use Rattle.kilim_link_spec.specs.declared.fault.LeftOutPart.{LeftOutPart}
 use Rattle.kilim_link_spec.specs.declared.fault.LeftOutPart.TheVariants as part
 use Rattle.kilim_link_spec.specs.declared.fault.Problem.TheVariants as problem
-use Rattle.kilim_link_spec.specs.Faults.{if_left, left_out, left_out_parts, left_out_ops, has_float, has_initializer, has_static_field, has_method_flag, has_interface, has_pausable_constructor, has_handlers, has_task_array, has_fiber_name, has_other_parameters}
+use Rattle.kilim_link_spec.specs.Faults.{if_left, left_out, left_out_parts, left_out_ops, has_float, has_initializer, has_static_field, has_method_flag, has_interface, has_pausable_constructor, has_pausable_handlers, has_task_array, has_fiber_name, has_other_parameters}
 use Rattle.kilim_link_spec.specs.World.{World, acc_super, acc_synchronized, acc_native, has_flag}
 
 pub record NothingLeftOut (w : World) (file : ClassFile) : Type 0 where
@@ -46,7 +46,7 @@ parts_with w file =
     ∷ (has_interface file, part.Interface)
     ∷ (not (has_flag acc_super file.access_flags), part.NoSuperFlag)
     ∷ (has_pausable_constructor file, part.PausableConstructor)
-    ∷ (has_handlers file, part.Handlers)
+    ∷ (has_pausable_handlers file, part.PausableHandlers)
     ∷ (has_task_array w file, part.TaskArray)
     ∷ (has_fiber_name w file, part.Fiber)
     ∷ (has_other_parameters file, part.ParameterAnnotations)

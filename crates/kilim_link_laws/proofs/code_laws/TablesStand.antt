@@ -31,7 +31,9 @@ use Rattle.kilim_link_spec.specs.Mentions.{instrs_if, instrs_in, instrs_of}
 use Rattle.kilim_link_spec.specs.Types.{each_of}
 use Rattle.kilim_link_spec.specs.declared.named.Body.{Body}
 use Rattle.kilim_link_spec.specs.World.{World, class_text, declared_method, world_of}
-use Rattle.kilim_link_laws.specs.code_laws.Facts.{TablesStand, entry_stands, is_place, table_stands}
+use Rattle.kilim_program.specs.Handlers.{entry_stands, table_stands}
+use Rattle.kilim_program.specs.Lengths.{is_code_place}
+use Rattle.kilim_link_laws.specs.code_laws.Facts.{TablesStand}
 use Rattle.kilim_link_laws.proofs.LinkedMembers.{LinkedMethod, bound, linked_method_is}
 use Rattle.kilim_link_laws.proofs.Linking.{Linking, linking, of_each}
 use Rattle.kilim_link_laws.proofs.Lists.{all_by_places}
@@ -43,13 +45,13 @@ use Rattle.kilim_link_laws.proofs.code_laws.Rows.{mapped}
 -- ---- places
 
 -- linked instructions stand where those of the file do
-same_places : (w : World) (pool : List Entry) (placed : List Placed) (es : List (ℕ × Instr)) → each_of (placed_in w pool) placed ≡ Some es → (at : ℕ) → begins_at placed at ≡ is_place es at
-same_places w pool [] es e at = ap (λ ys. is_place ys at) (same_Some [] es e)
+same_places : (w : World) (pool : List Entry) (placed : List Placed) (es : List (ℕ × Instr)) → each_of (placed_in w pool) placed ≡ Some es → (at : ℕ) → begins_at placed at ≡ is_code_place es at
+same_places w pool [] es e at = ap (λ ys. is_code_place ys at) (same_Some [] es e)
 same_places w pool (p ∷ ps) es e at =
     let g = first_and (placed_in w pool p) (each_of (placed_in w pool) ps) es e in
     let m = mapped (λ (instr : Instr). (p.0, instr)) (instr_in w pool p.1) g.x g.first_is in
     ap (λ (b : Bool). (p.0 == at) || b) (same_places w pool ps g.xs g.others_are at)
-    ∙ (ap (λ (y : ℕ × Instr). (y.0 == at) || is_place g.xs at) m.is ∙ ap (λ ys. is_place ys at) (sym g.is))
+    ∙ (ap (λ (y : ℕ × Instr). (y.0 == at) || is_code_place g.xs at) m.is ∙ ap (λ ys. is_code_place ys at) (sym g.is))
 
 is_so : (b : Bool) → not b ≡ false → b ≡ true
 is_so true e = refl
@@ -69,8 +71,8 @@ module _ (w : World) (pool : List Entry) (code : Code) (placed : List Placed) (e
       let same = same_places w pool placed es made in
       let whole = is_so (row_stands code placed row) (or_parts (not (row_stands code placed row)) (begins_as_array (class_text pool row.catch_type)) good).0 in
       subst (λ (x : Handler). entry_stands es (length code.code) x ≡ true) m.is
-      (ap (λ (b : Bool). stands b (is_place es row.end_pc) at_end less (is_place es row.handler_pc)) (sym (same row.start_pc))
-      ∙ (ap (λ (b : Bool). stands (begins_at placed row.start_pc) b at_end less (is_place es row.handler_pc)) (sym (same row.end_pc))
+      (ap (λ (b : Bool). stands b (is_code_place es row.end_pc) at_end less (is_code_place es row.handler_pc)) (sym (same row.start_pc))
+      ∙ (ap (λ (b : Bool). stands (begins_at placed row.start_pc) b at_end less (is_code_place es row.handler_pc)) (sym (same row.end_pc))
       ∙ (ap (λ (b : Bool). stands (begins_at placed row.start_pc) (begins_at placed row.end_pc) at_end less b) (sym (same row.handler_pc)) ∙ whole)))
 
   entries : (rows : List ExceptionHandler) (hs : List Handler) → each_of (handler_in w pool) rows ≡ Some hs → numbers_that (is_bad_row pool code placed) 0 rows ≡ [] → list_all (entry_stands es (length code.code)) hs ≡ true

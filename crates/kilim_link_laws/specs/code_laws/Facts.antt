@@ -1,20 +1,19 @@
 -- Facts of programs that are linked.
-use Rattle.std.specs.Prelude.{◌≡◌, ℕ, ◌==◌, ◌&&◌, ◌||◌, not, nat_lt, if◌then◌else◌, Bool, true, List, []}
-use Rattle.std.specs.List.{list_all, list_any}
+use Rattle.std.specs.Prelude.{◌≡◌, ◌||◌, not, if◌then◌else◌, Bool, true, List, []}
+use Rattle.std.specs.List.{list_all}
 use Rattle.kilim_class_file.specs.declared.class_file.ClassFile.{ClassFile}
 use Rattle.kilim_link_spec.specs.Faults.{link_faults}
 use Rattle.kilim_link_spec.specs.Linked.{Linked}
 use Rattle.kilim_link_spec.specs.LinksWell.{LinksWell}
 use Rattle.kilim_link_spec.specs.World.{world_of}
 use Rattle.kilim_program.specs.declared.class.Form.{Form}
-use Rattle.kilim_program.specs.declared.class.Handler.{Handler}
 use Rattle.kilim_program.specs.declared.class.Method.{Method}
-use Rattle.kilim_program.specs.declared.instr.Instr.{Instr}
 use Rattle.kilim_program.specs.declared.names.ClassId.{ClassId}
 use Rattle.kilim_program.specs.declared.ty.Qualifier.TheVariants.{Cuttable, Safe}
-use Rattle.kilim_program.specs.Keeps.{code_is_whole, constants_fit, frames_are_proper, ids_are_places, method_is_sound, no_task_arrays}
+use Rattle.kilim_program.specs.Handlers.{pauses_bare, table_stands}
+use Rattle.kilim_program.specs.Keeps.{caught_there, code_is_whole, constants_fit, frames_are_proper, ids_are_places, method_is_sound, no_task_arrays}
 use Rattle.kilim_program.specs.Lengths.{places_increase}
-use Rattle.kilim_program.specs.Names.{is_empty, is_task}
+use Rattle.kilim_program.specs.Names.{is_task}
 use Rattle.kilim_program.specs.Program.{Program}
 use Rattle.kilim_program.specs.Same.{is_constructor, same_qualifier}
 
@@ -26,21 +25,13 @@ FramesIncrease = (files : List ClassFile) (form : Form) (p : Program) → LinksW
 abbrev pub FramesAreProper : Type 0
 FramesAreProper = (files : List ClassFile) (form : Form) (p : Program) → LinksWell files form p → list_all frames_are_proper p.methods ≡ true
 
--- No method has an exception table.
-abbrev pub NoneHasHandlers : Type 0
-NoneHasHandlers = (files : List ClassFile) (form : Form) (p : Program) → LinksWell files form p → list_all (λ m. is_empty m.handlers) p.methods ≡ true
+-- No method that pauses has an exception table.
+abbrev pub NonePausesWithTable : Type 0
+NonePausesWithTable = (files : List ClassFile) (form : Form) (p : Program) → LinksWell files form p → list_all pauses_bare p.methods ≡ true
 
--- an instruction stands at that place
-abbrev pub is_place : List (ℕ × Instr) → ℕ → Bool
-is_place code at = list_any (λ e. e.0 == at) code
-
--- The range of an entry of an exception table isn't empty; it begins at an instruction, and ends at one or with the code. Its handler
--- is an instruction (JVMS 4.7.3, 4.9.1).
-abbrev pub entry_stands : List (ℕ × Instr) → ℕ → Handler → Bool
-entry_stands code size h = is_place code h.start && ((is_place code h.end || h.end == size) && (nat_lt h.start h.end && is_place code h.at))
-
-abbrev pub table_stands : Method → Bool
-table_stands m = list_all (entry_stands m.code m.code_length) m.handlers
+-- What the entries of exception tables catch is there.
+abbrev pub CatchesAreThere : Type 0
+CatchesAreThere = (files : List ClassFile) (form : Form) (p : Program) → LinksWell files form p → list_all (caught_there p) p.methods ≡ true
 
 -- Each entry of an exception table is one of instructions.
 abbrev pub TablesStand : Type 0

@@ -1,7 +1,7 @@
 -- The methods at distances from a first one, one by one.
 use Rattle.std.proofs.Common.{◌≡◌, ℕ, ◌+◌, ◌<◌, List, [], ◌∷◌, ◌++◌, length, take, get_or, refl, sym, ap, ◌∙◌, append_assoc, add-one}
 use Rattle.std.proofs.Math.Seq.{take-suc}
-use Rattle.kilim_program.specs.BuiltIn.{built_in_constructor, class_id, constructors_of, method_id, methods_from}
+use Rattle.kilim_program.specs.BuiltIn.{built_in_constructor, class_id, constructors_of, message_constructor, method_id, methods_from}
 use Rattle.kilim_program.specs.declared.class.Method.{Method}
 
 from_append : (first : ℕ) (xs : List ℕ) (n : ℕ) → methods_from first (xs ++ n ∷ []) ≡ methods_from first xs ++ method_id (first + n) ∷ []
@@ -14,16 +14,20 @@ from_more first xs i d lt = rw add-one (ap (methods_from first) (take-suc xs i d
 
 -- ---- constructors at distances from the first class
 
-constructor_behind : (first : ℕ) (ns : List ℕ) (n : ℕ) → constructors_of first (ns ++ n ∷ []) ≡ constructors_of first ns ++ built_in_constructor (class_id (first + n)) ∷ []
-constructor_behind first [] n = refl
-constructor_behind first (k ∷ ns) n = ap (λ (ms : List Method). built_in_constructor (class_id (first + k)) ∷ ms) (constructor_behind first ns n)
+abbrev two_of : ℕ → ℕ → List Method
+two_of first n = built_in_constructor (class_id (first + n)) ∷ message_constructor first (class_id (first + n)) ∷ []
 
--- one more in a loop that appends them
-pub one_constructor : (first : ℕ) (ns : List ℕ) (i d : ℕ) (before now next : List Method) → i < length ns → now ≡ before ++ constructors_of first (take i ns)
-    → next ≡ now ++ built_in_constructor (class_id (first + get_or ns i d)) ∷ [] → next ≡ before ++ constructors_of first (take (i + 1) ns)
-one_constructor first ns i d before now next lt so_far step =
-    let last : List Method = built_in_constructor (class_id (first + get_or ns i d)) ∷ [] in
+constructors_behind : (first : ℕ) (ns : List ℕ) (n : ℕ) → constructors_of first (ns ++ n ∷ []) ≡ constructors_of first ns ++ two_of first n
+constructors_behind first [] n = refl
+constructors_behind first (k ∷ ns) n = ap (λ (ms : List Method). two_of first k ++ ms) (constructors_behind first ns n)
+
+-- two more in a loop that appends them
+pub two_constructors : (first : ℕ) (ns : List ℕ) (i d : ℕ) (before now next : List Method) → i < length ns → now ≡ before ++ constructors_of first (take i ns)
+    → next ≡ now ++ built_in_constructor (class_id (first + get_or ns i d)) ∷ message_constructor first (class_id (first + get_or ns i d)) ∷ []
+    → next ≡ before ++ constructors_of first (take (i + 1) ns)
+two_constructors first ns i d before now next lt so_far step =
+    let last : List Method = two_of first (get_or ns i d) in
     step
     ∙ (ap (λ (ms : List Method). ms ++ last) so_far
     ∙ (append_assoc before (constructors_of first (take i ns)) last
-    ∙ ap (λ (ms : List Method). before ++ ms) (sym (rw add-one (ap (constructors_of first) (take-suc ns i d lt)) ∙ constructor_behind first (take i ns) (get_or ns i d)))))
+    ∙ ap (λ (ms : List Method). before ++ ms) (sym (rw add-one (ap (constructors_of first) (take-suc ns i d lt)) ∙ constructors_behind first (take i ns) (get_or ns i d)))))

@@ -1,10 +1,10 @@
 -- What the rows of the built-in classes and methods mean.
-use Rattle.std.specs.Prelude.{ℕ, ◌+◌, Bool, true, false, List, [], ◌∷◌, ◌++◌, Option, Some, map, option_map}
+use Rattle.std.specs.Prelude.{ℕ, ◌+◌, Bool, true, false, List, [], ◌∷◌, ◌++◌, Option, Some, None, map, option_map, codes}
 use Rattle.kilim_program.specs.declared.names.ClassId.{ClassId}
 use Rattle.kilim_program.specs.declared.ty.Base.TheVariants as base
 use Rattle.kilim_program.specs.declared.ty.Ty.{Ty}
 use Rattle.kilim_program.specs.declared.ty.Qualifier.{Qualifier}
-use Rattle.kilim_program.specs.declared.ty.Qualifier.TheVariants.{Safe}
+use Rattle.kilim_program.specs.declared.ty.Qualifier.TheVariants.{Cuttable, Safe}
 use Rattle.kilim_program.specs.declared.class.Class.{Class}
 use Rattle.kilim_program.specs.declared.class.Form.{Form}
 use Rattle.kilim_program.specs.declared.class.Form.TheVariants.{Woven}
@@ -53,3 +53,7 @@ marks_of form row = row.qualifiers.now ++ fiber_marks form row.pausable
 abbrev pub method_of : Form → ℕ → MethodRow → Method
 method_of form first row =
     built_in_method row.name.now (class_id (first + row.owner)) (params_of form first row) (option_map (type_of first) row.gives) row.is_static row.pausable row.receiver (marks_of form row)
+
+-- a constructor of the class that stands so far behind the first one
+abbrev pub constructor_with : ℕ → ℕ → List Kind → List Qualifier → Method
+constructor_with first owner params qualifiers = built_in_method (codes "<init>") (class_id (first + owner)) (map (type_of first) params) None false false Cuttable qualifiers

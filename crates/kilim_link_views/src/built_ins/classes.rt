@@ -1,14 +1,15 @@
 //! The classes.
 
 ghost use Rattle.std.specs.Prelude.{◌≡◌, ◌<◌, ◌^◌, ℕ, ◌++◌, ◌∷◌, [], map, Some, OnOk, IfOk};
-ghost use Rattle.kilim_program.specs.BuiltIn.{class_id, methods_from, fiber_classes, built_in_classes_in};
+ghost use Rattle.kilim_program.specs.BuiltIn.{class_id, methods_from, fiber_classes, built_in_classes_in, built_in_fields, message_field, methods_before_exceptions, throwable_class};
 ghost use Rattle.kilim_link_views.specs.built_ins.Rows.{class_of, exception_of};
 
 use crate::built_ins::parts::text;
 use crate::built_ins::rows::{
-    CLASSES, ClassRow, EXCEPTION_CLASSES, ExceptionRow, FIBER_CLASSES, OBJECT_CLASS,
+    CLASSES, ClassRow, EXCEPTION_CLASSES, ExceptionRow, FIBER_CLASSES, OBJECT_CLASS, STRING,
+    THROWABLE, THROWABLE_METHODS,
 };
-use kilim_program::{Class, ClassId, Form, MethodId};
+use kilim_program::{Base, Class, ClassId, Field, FieldId, Form, MethodId, Ty};
 use kilim_units::{NoMemory, Seq};
 use std::alloc::Global;
 
@@ -86,6 +87,49 @@ fn push_classes(
     Ok(())
 }
 
+// The number of the message of an exception, alone.
+fn message_alone(alloc: Global) -> Result<Seq<FieldId>, NoMemory>
+    ensures { IfOk result (λ fields. fields ≡ message_field ∷ []) }
+{
+    let mut fields = Seq::new(alloc);
+    let Ok(()) = fields.push(FieldId(0)) else {
+        return Err(NoMemory);
+    };
+    Ok(fields)
+}
+
+// Appends `java/lang/Throwable`.
+fn push_throwable(
+    alloc: Global,
+    classes: &mut Seq<Class>,
+    first: u32,
+    method: u32,
+) -> Result<(), NoMemory>
+    requires { method < 2 ^ 31 }
+    ensures { OnOk result (classes.new ≡ classes.old ++ throwable_class first method methods_before_exceptions ∷ []) }
+{
+    let Ok(name) = text(alloc, b"java/lang/Throwable") else {
+        return Err(NoMemory);
+    };
+    let Ok(methods) = methods_from(alloc, method, THROWABLE_METHODS) else {
+        return Err(NoMemory);
+    };
+    let Ok(fields) = message_alone(alloc) else {
+        return Err(NoMemory);
+    };
+    let Ok(()) = classes.push(Class {
+        name,
+        superclass: Some(ClassId(first)),
+        is_abstract: false,
+        message: false,
+        fields,
+        methods,
+    }) else {
+        return Err(NoMemory);
+    };
+    Ok(())
+}
+
 // Appends a class of exceptions.
 fn push_exception(
     alloc: Global,
@@ -149,6 +193,9 @@ pub fn built_in_classes(
     let Ok(()) = push_classes(alloc, &mut classes, first, method, CLASSES) else {
         return Err(NoMemory);
     };
+    let Ok(()) = push_throwable(alloc, &mut classes, first, method) else {
+        return Err(NoMemory);
+    };
     let Ok(()) = push_exceptions(alloc, &mut classes, first, method, EXCEPTION_CLASSES) else {
         return Err(NoMemory);
     };
@@ -156,4 +203,30 @@ pub fn built_in_classes(
         return Err(NoMemory);
     };
     Ok(classes)
+}
+
+/// The built-in fields: the message of an exception, which stands before all other fields (own). The first of the built-in
+/// classes has this number.
+pub fn built_in_fields(alloc: Global, first: u32) -> Result<Seq<Field>, NoMemory>
+    requires { first < 2 ^ 31 }
+    ensures { IfOk result (λ fields. fields ≡ built_in_fields first) }
+{
+    let Ok(name) = text(alloc, b"message") else {
+        return Err(NoMemory);
+    };
+    let mut fields = Seq::new(alloc);
+    let Ok(()) = fields.push(Field {
+        name,
+        ty: Ty {
+            dims: 0,
+            base: Base::Class(ClassId(first + u32::from(STRING))),
+        },
+        owner: ClassId(first + u32::from(THROWABLE)),
+        is_static: false,
+        is_private: true,
+        constant: None,
+    }) else {
+        return Err(NoMemory);
+    };
+    Ok(fields)
 }

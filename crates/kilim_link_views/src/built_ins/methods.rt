@@ -1,11 +1,11 @@
 //! The methods, class by class.
 
 ghost use Rattle.std.specs.Prelude.{◌≡◌, ◌<◌, ◌^◌, ℕ, ◌+◌, ◌++◌, ◌∷◌, [], map, OnOk, IfOk};
-ghost use Rattle.kilim_program.specs.BuiltIn.{built_in_constructor, built_in_methods_in, class_id, constructors_of, fiber_methods};
-ghost use Rattle.kilim_link_views.specs.built_ins.Rows.{params_of, marks_of, fiber_kinds, fiber_marks, method_of};
+ghost use Rattle.kilim_program.specs.BuiltIn.{built_in_constructor, built_in_methods_in, class_id, constructors_of, fiber_methods, message_constructor};
+ghost use Rattle.kilim_link_views.specs.built_ins.Rows.{constructor_with, params_of, marks_of, fiber_kinds, fiber_marks, method_of};
 
 use crate::built_ins::parts::{gives_of, push_types, text};
-use crate::built_ins::rows::{EXCEPTIONS, FIBER, FIBER_METHODS, Kind, METHODS, MethodRow};
+use crate::built_ins::rows::{EXCEPTIONS, FIBER, FIBER_METHODS, Kind, METHODS, MethodRow, STRING};
 use kilim_program::{ClassId, Form, Method, Qualifier, Ty};
 use kilim_units::{NoMemory, Seq};
 use std::alloc::Global;
@@ -119,27 +119,47 @@ fn push_methods(
     Ok(())
 }
 
-// Appends the constructor of a class of exceptions.
+// Appends a constructor of a class of exceptions.
 fn push_constructor(
     alloc: Global,
     methods: &mut Seq<Method>,
     first: u32,
     owner: u8,
+    params: &[Kind],
+    qualifiers: &[Qualifier],
 ) -> Result<(), NoMemory>
     requires { first < 2 ^ 31 }
-    ensures { OnOk result (methods.new ≡ methods.old ++ built_in_constructor (class_id (first + owner)) ∷ []) }
+    ensures { OnOk result (methods.new ≡ methods.old ++ constructor_with first owner params.now qualifiers.now ∷ []) }
 {
     let row = MethodRow {
         name: b"<init>",
         owner,
-        params: &[],
+        params,
         gives: None,
         is_static: false,
         pausable: false,
         receiver: Qualifier::Cuttable,
-        qualifiers: &[],
+        qualifiers,
     };
     push_method(alloc, methods, Form::Plain, first, &row)
+}
+
+// Appends the two constructors of a class of exceptions.
+fn push_two(alloc: Global, methods: &mut Seq<Method>, first: u32, owner: u8) -> Result<(), NoMemory>
+    requires { first < 2 ^ 31 }
+    ensures { OnOk result (methods.new ≡ methods.old ++ built_in_constructor (class_id (first + owner)) ∷ message_constructor first (class_id (first + owner)) ∷ []) }
+{
+    let Ok(()) = push_constructor(alloc, methods, first, owner, &[], &[]) else {
+        return Err(NoMemory);
+    };
+    push_constructor(
+        alloc,
+        methods,
+        first,
+        owner,
+        &[Kind::Object(STRING)],
+        &[Qualifier::Safe],
+    )
 }
 
 // Appends the constructors of some classes of exceptions.
@@ -153,7 +173,7 @@ fn push_constructors(
     ensures { OnOk result (methods.new ≡ methods.old ++ constructors_of first owners.now) }
 {
     for owner in owners {
-        let Ok(()) = push_constructor(alloc, methods, first, *owner) else {
+        let Ok(()) = push_two(alloc, methods, first, *owner) else {
             return Err(NoMemory);
         };
     }

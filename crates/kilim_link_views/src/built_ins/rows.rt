@@ -47,7 +47,8 @@ pub struct MethodRow<'a> {
 
 const OBJECT: u8 = 0;
 
-const STRING: u8 = 1;
+/// The place of `java/lang/String` behind the first class.
+pub const STRING: u8 = 1;
 
 const MESSAGE: u8 = 2;
 
@@ -57,7 +58,8 @@ const MAILBOX: u8 = 5;
 
 const SYS: u8 = 6;
 
-const THROWABLE: u8 = 7;
+/// The place of `java/lang/Throwable` behind the first class.
+pub const THROWABLE: u8 = 7;
 
 const EXCEPTION: u8 = 8;
 
@@ -107,64 +109,62 @@ pub const CLASSES: &[ClassRow] = &[
         message: false,
         methods: &[13, 14, 15, 16, 17, 18, 19],
     },
-    ClassRow {
-        name: b"java/lang/Throwable",
-        message: false,
-        methods: &[20],
-    },
 ];
+
+/// The methods of `java/lang/Throwable`.
+pub const THROWABLE_METHODS: &[u8] = &[20, 21, 22];
 
 /// The classes of exceptions below `java/lang/Throwable`.
 pub const EXCEPTION_CLASSES: &[ExceptionRow] = &[
     ExceptionRow {
         name: b"java/lang/Exception",
         superclass: THROWABLE,
-        methods: &[21],
+        methods: &[23, 24],
     },
     ExceptionRow {
         name: b"java/lang/RuntimeException",
         superclass: EXCEPTION,
-        methods: &[22],
+        methods: &[25, 26],
     },
     ExceptionRow {
         name: b"java/lang/ArithmeticException",
         superclass: RUNTIME_EXCEPTION,
-        methods: &[23],
+        methods: &[27, 28],
     },
     ExceptionRow {
         name: b"java/lang/NullPointerException",
         superclass: RUNTIME_EXCEPTION,
-        methods: &[24],
+        methods: &[29, 30],
     },
     ExceptionRow {
         name: b"java/lang/NegativeArraySizeException",
         superclass: RUNTIME_EXCEPTION,
-        methods: &[25],
+        methods: &[31, 32],
     },
     ExceptionRow {
         name: b"java/lang/ClassCastException",
         superclass: RUNTIME_EXCEPTION,
-        methods: &[26],
+        methods: &[33, 34],
     },
     ExceptionRow {
         name: b"java/lang/ArrayStoreException",
         superclass: RUNTIME_EXCEPTION,
-        methods: &[27],
+        methods: &[35, 36],
     },
     ExceptionRow {
         name: b"java/lang/IndexOutOfBoundsException",
         superclass: RUNTIME_EXCEPTION,
-        methods: &[28],
+        methods: &[37, 38],
     },
     ExceptionRow {
         name: b"java/lang/ArrayIndexOutOfBoundsException",
         superclass: INDEX_EXCEPTION,
-        methods: &[29],
+        methods: &[39, 40],
     },
     ExceptionRow {
         name: b"java/lang/StringIndexOutOfBoundsException",
         superclass: INDEX_EXCEPTION,
-        methods: &[30],
+        methods: &[41, 42],
     },
 ];
 
@@ -172,13 +172,13 @@ pub const EXCEPTION_CLASSES: &[ExceptionRow] = &[
 pub const FIBER_CLASSES: &[ClassRow] = &[ClassRow {
     name: b"kilim/Fiber",
     message: false,
-    methods: &[31, 32, 33, 34, 35, 36, 37, 38, 39, 40, 41],
+    methods: &[43, 44, 45, 46, 47, 48, 49, 50, 51, 52, 53],
 }];
 
-/// The classes of exceptions, each of which has a constructor, in their order.
-pub const EXCEPTIONS: &[u8] = &[7, 8, 9, 10, 11, 12, 13, 14, 15, 16, 17];
+/// The classes of exceptions below `java/lang/Throwable`, each of which has two constructors, in their order.
+pub const EXCEPTIONS: &[u8] = &[8, 9, 10, 11, 12, 13, 14, 15, 16, 17];
 
-/// The methods before the constructors of exceptions, in the order of their classes.
+/// The methods before those constructors, in the order of their classes.
 pub const METHODS: &[MethodRow] = &[
     MethodRow {
         name: b"<init>",
@@ -379,6 +379,36 @@ pub const METHODS: &[MethodRow] = &[
         pausable: false,
         receiver: Qualifier::Safe,
         qualifiers: &[Qualifier::Cuttable, Qualifier::Safe],
+    },
+    MethodRow {
+        name: b"<init>",
+        owner: THROWABLE,
+        params: &[],
+        gives: None,
+        is_static: false,
+        pausable: false,
+        receiver: Qualifier::Cuttable,
+        qualifiers: &[],
+    },
+    MethodRow {
+        name: b"<init>",
+        owner: THROWABLE,
+        params: &[Kind::Object(STRING)],
+        gives: None,
+        is_static: false,
+        pausable: false,
+        receiver: Qualifier::Cuttable,
+        qualifiers: &[Qualifier::Safe],
+    },
+    MethodRow {
+        name: b"getMessage",
+        owner: THROWABLE,
+        params: &[],
+        gives: Some(Kind::Object(STRING)),
+        is_static: false,
+        pausable: false,
+        receiver: Qualifier::Safe,
+        qualifiers: &[],
     },
 ];
 

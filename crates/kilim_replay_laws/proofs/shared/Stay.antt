@@ -17,6 +17,7 @@ use Rattle.kilim_program.specs.declared.value.Value.TheVariants.{Int, Long, Null
 use Rattle.kilim_run_state.specs.declared.value.Object.{Object}
 use Rattle.kilim_run_state.specs.Machine.{Objects}
 use Rattle.kilim_run_state.specs.Shapes.{field_in}
+use Rattle.kilim_program.specs.BuiltIn.{message_field}
 use Rattle.kilim_program.specs.Names.{field_of}
 use Rattle.kilim_run_machine.specs.Effect.{Effect, Goes, Makes, Opens, Calls, Asks, Returns, Raises, Throws, Ends, Stuck, with_some, on_value, on_values, on_receiver, as_reference, as_receiver, as_int, as_long, on_int, on_two_ints, on_long, on_two_longs, is_wide, wide_or, on_word, on_two_words, on_reference, as_object, on_object, as_class, at_index, at_place, when, on_constant}
 use Rattle.kilim_run_machine.specs.Does.{does, cast_fits, element_type, is_mailbox, makes_array, array_limit, throws_object}
@@ -24,10 +25,10 @@ use Rattle.kilim_program.specs.declared.names.MethodId.{MethodId}
 use Rattle.kilim_program.specs.Names.{method_at}
 use Rattle.kilim_program.specs.Lengths.{fetched}
 use Rattle.kilim_run_state.specs.Machine.{Activation}
-use Rattle.kilim_run_machine.specs.Natives.{is_built_in_constructor, is_handed_out, is_text_method}
+use Rattle.kilim_run_machine.specs.Natives.{is_built_in_constructor, is_get_message, is_handed_out, is_message_constructor, is_text_method}
 use Rattle.kilim_run_machine.specs.Effect.{text_of}
-use Rattle.kilim_run_machine.specs.Does.{chosen, calls_method, calls_on, special, calls_text, takes_element, text_answers, at_unit, unit_at}
-use Rattle.kilim_run_machine.specs.Moves.{Move, effect_of, effect_in, effect_found, moves, move_by, called, returned, frame_limit}
+use Rattle.kilim_run_machine.specs.Does.{chosen, calls_method, calls_on, gives_message, keeps_message, special, calls_text, takes_element, text_answers, at_unit, unit_at}
+use Rattle.kilim_run_machine.specs.Moves.{Move, effect_of, effect_in, effect_found, moves, move_by, returned, frame_limit}
 use Rattle.kilim_run_machine.specs.Moves as move
 use Rattle.kilim_run_state.specs.declared.cause.EndCause.TheVariants as cause
 
@@ -333,9 +334,21 @@ module _ (h : Objects) where
   values_stay zero st go f = f [] st
   values_stay (suc n) st go f = st_value st (λ v rest. on_values n rest (λ vs below. go (v ∷ vs) below)) (λ v rest. values_stay n rest (λ vs below. go (v ∷ vs) below) (λ vs below. f (v ∷ vs) below))
 
+  keeps_stays : (args : List Value) (next : ℕ) (locals rest : List Value) → Stay (keeps_message args next locals rest h)
+  keeps_stays [] next locals rest = record { holds = same }
+  keeps_stays (v ∷ []) next locals rest = record { holds = same }
+  keeps_stays (v ∷ w ∷ []) next locals rest = st_object v h _ (λ n object. st_some (field_in object.fields message_field) _ (λ old. record { holds = put n _ }))
+  keeps_stays (v ∷ w ∷ x ∷ xs) next locals rest = record { holds = same }
+
+  gives_stays : (args : List Value) (next : ℕ) (locals rest : List Value) → Stay (gives_message args next locals rest h)
+  gives_stays [] next locals rest = record { holds = same }
+  gives_stays (v ∷ []) next locals rest = st_object v h _ (λ n object. st_some (field_in object.fields message_field) _ (λ w. record { holds = same }))
+  gives_stays (v ∷ w ∷ ws) next locals rest = record { holds = same }
+
   method_stays : (o : Option Method) (m : MethodId) (args : List Value) (next : ℕ) (locals rest : List Value) → Stay (calls_method o m args next locals rest h)
   method_stays None m args next locals rest = record { holds = same }
-  method_stays (Some method) m args next locals rest = st_if method.built_in _ _ (record { holds = same }) (record { holds = same })
+  method_stays (Some method) m args next locals rest = st_if method.built_in _ _
+      (st_if (is_message_constructor method) _ _ (keeps_stays args next locals rest) (st_if (is_get_message method) _ _ (gives_stays args next locals rest) (record { holds = same }))) (record { holds = same })
 
   class_stays : (p : Program) (named : Method) (m : MethodId) (args : List Value) (next : ℕ) (locals rest : List Value) (receiver : Value) (ty : Option Ty) → Stay (calls_on p named m args next locals rest h receiver ty)
   class_stays p named m args next locals rest receiver None = record { holds = same }

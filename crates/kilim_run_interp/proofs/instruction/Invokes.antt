@@ -1,5 +1,6 @@
 -- What the rows of calls say, with the operands as they stand on the stack.
-use Rattle.std.proofs.Common.{◌≡◌, ◌∙◌, sym, ap, refl, ℕ, ◌+◌, ◌<◌, ◌≤◌, true, false, true≢false, List, [], ◌∷◌, Option, Some, None, length, take, drop, reverse, slice_get, is_some, arith, length-take}
+use Rattle.std.proofs.Common.{◌≡◌, ◌∙◌, sym, ap, refl, ℕ, zero, suc, ◌+◌, ◌<◌, ◌≤◌, Bool, true, false, true≢false, cond, List, [], ◌∷◌, Option, Some, None, length, take, drop, reverse, slice_get, is_some, arith, length-take}
+use Rattle.std.proofs.lemmas.Bool.{or_parts}
 use Rattle.std.proofs.lemmas.List.{length-reverse}
 use Rattle.kilim_program.specs.declared.ty.Ty.{Ty}
 use Rattle.std.specs.FinMap.{get}
@@ -13,12 +14,12 @@ use Rattle.kilim_program.specs.Names.{method_at}
 use Rattle.kilim_run_state.specs.declared.cause.EndCause.TheVariants as cause
 use Rattle.kilim_run_state.specs.declared.value.Object.{Object}
 use Rattle.kilim_run_state.specs.Machine.{Objects}
-use Rattle.kilim_run_machine.specs.Natives.{is_built_in_constructor, is_handed_out, is_text_method}
+use Rattle.kilim_run_machine.specs.Natives.{is_built_in_constructor, is_get_message, is_handed_out, is_message_constructor, is_of_message, is_text_method}
 use Rattle.kilim_run_machine.specs.Effect.{Effect, Goes, Calls, Asks, Raises, Stuck, on_values, as_receiver, as_class, with_some}
-use Rattle.kilim_run_machine.specs.Does.{does, is_null, special, calls_method, calls_on, calls_text, text_answers}
-use Rattle.kilim_run_interp.specs.declared.instruction.calls.Target.TheVariants.{NoReceiver, WithCode, BuiltIn, Nowhere}
-use Rattle.kilim_run_interp.specs.instruction.Calls.{on_call, Reaches}
-use Rattle.kilim_run_rows.specs.Types.{is_found}
+use Rattle.kilim_run_machine.specs.Does.{chosen, does, is_null, special, calls_built_in, calls_method, calls_on, calls_text, gives_message, keeps_message, text_answers}
+use Rattle.kilim_run_interp.specs.declared.instruction.calls.Target.TheVariants.{NoReceiver, WithCode, BuiltIn, KeepsMessage, GivesMessage, Nowhere}
+use Rattle.kilim_run_interp.specs.instruction.Calls.{built_in_target, on_call, Reaches}
+use Rattle.kilim_run_rows.specs.Types.{class_of, is_found, type_at}
 use Rattle.kilim_run_rows.specs.Outcome.{is_stuck}
 use Rattle.kilim_run_interp.proofs.instruction.Operands.{values_there, values_taken, call_there, call_taken, receiver_first}
 
@@ -92,6 +93,65 @@ pub text_there : (named : Method) (n next : ℕ) (ls stack : List Value) (h : Ob
 unfolding text_go
 text_there named n next ls stack h fine = call_there n stack (text_go named next ls h) fine
 
+-- a call of a built-in method is what its kind says
+built_in_called : (o : Option Method) (method : Method) (id : MethodId) (args : List Value) (next : ℕ) (ls rest : List Value) (h : Objects) → o ≡ Some method → method.built_in ≡ true →
+    calls_method o id args next ls rest h ≡ calls_built_in method id args next ls rest h
+built_in_called o method id args next ls rest h there built_in =
+    ap (λ (z : Option Method). calls_method z id args next ls rest h) there ∙ ap (λ (z : Bool). cond z (calls_built_in method id args next ls rest h) (Calls id args next ls rest h)) built_in
+
+-- what it comes to, by its kind
+kept : (method : Method) (id : MethodId) (args : List Value) (next : ℕ) (ls rest : List Value) (h : Objects) → is_message_constructor method ≡ true → calls_built_in method id args next ls rest h ≡ keeps_message args next ls rest h
+kept method id args next ls rest h keeps = ap (λ (z : Bool). cond z (keeps_message args next ls rest h) (cond (is_get_message method) (gives_message args next ls rest h) (Asks id args next ls rest h))) keeps
+
+given : (method : Method) (id : MethodId) (args : List Value) (next : ℕ) (ls rest : List Value) (h : Objects) → is_message_constructor method ≡ false → is_get_message method ≡ true → calls_built_in method id args next ls rest h ≡ gives_message args next ls rest h
+given method id args next ls rest h keeps gives =
+    ap (λ (z : Bool). cond z (keeps_message args next ls rest h) (cond (is_get_message method) (gives_message args next ls rest h) (Asks id args next ls rest h))) keeps
+    ∙ ap (λ (z : Bool). cond z (gives_message args next ls rest h) (Asks id args next ls rest h)) gives
+
+asked : (method : Method) (id : MethodId) (args : List Value) (next : ℕ) (ls rest : List Value) (h : Objects) → is_message_constructor method ≡ false → is_get_message method ≡ false → calls_built_in method id args next ls rest h ≡ Asks id args next ls rest h
+asked method id args next ls rest h keeps gives =
+    ap (λ (z : Bool). cond z (keeps_message args next ls rest h) (cond (is_get_message method) (gives_message args next ls rest h) (Asks id args next ls rest h))) keeps
+    ∙ ap (λ (z : Bool). cond z (gives_message args next ls rest h) (Asks id args next ls rest h)) gives
+
+same_class : (c d : Option Ty) → Some c ≡ Some d → c ≡ d
+same_class c d e = cc
+
+no_class : (c : Option Ty) → None ≡ Some c → ⊥
+no_class c e = cc
+
+object_is : (o : Option Object) (go : Option Ty → Effect) (c : Option Ty) → class_of o ≡ Some c → with_some o (λ (object : Object). go (Some object.class)) ≡ go c
+object_is None go c is = absurd (no_class c is)
+object_is (Some object) go c is = ap go (same_class (Some object.class) c is)
+
+-- a call on a value goes on with its class
+pub class_is : (p : Program) (v : Value) (h : Objects) (go : Option Ty → Effect) (c : Option Ty) → type_at p v h ≡ Some c → as_class p v h go ≡ go c
+class_is p (Int x) h go c is = absurd (no_class c is)
+class_is p (Long x) h go c is = absurd (no_class c is)
+class_is p Null h go c is = ap go (same_class _ c is)
+class_is p (Ref n) h go c is = object_is (get h n) go c is
+class_is p (Text units) h go c is = ap go (same_class _ c is)
+class_is p (Box box) h go c is = ap go (same_class _ c is)
+class_is p Fiber h go c is = ap go (same_class _ c is)
+
+pub asks_built_in : (o : Option Method) (method : Method) (id : MethodId) (args : List Value) (next : ℕ) (ls rest : List Value) (h : Objects) → o ≡ Some method → method.built_in ≡ true → is_of_message method ≡ false →
+    calls_method o id args next ls rest h ≡ Asks id args next ls rest h
+asks_built_in o method id args next ls rest h there built_in none =
+    let parts = or_parts (is_message_constructor method) (is_get_message method) none in
+    built_in_called o method id args next ls rest h there built_in ∙ asked method id args next ls rest h parts.0 parts.1
+
+-- what a call on an object reaches, where that is a built-in method
+pub reaches_built_in : (p : Program) (named : Method) (m : MethodId) (r : Value) (h : Objects) (ty : Ty) (target : Method) → ((go : Option Ty → Effect) → as_class p r h go ≡ go (Some ty)) → method_at p (chosen p named m ty) ≡ Some target
+    → target.built_in ≡ true → Reaches p named m r h (built_in_target (chosen p named m ty) target)
+reaches_built_in p named m r h ty target is there built = by (is_message_constructor target) (is_get_message target) refl refl
+  where
+    row : (args : List Value) (next : ℕ) (ls rest : List Value) → as_class p r h (calls_on p named m args next ls rest h r) ≡ calls_built_in target (chosen p named m ty) (r ∷ args) next ls rest h
+    row args next ls rest = is (calls_on p named m args next ls rest h r) ∙ built_in_called (method_at p (chosen p named m ty)) target (chosen p named m ty) (r ∷ args) next ls rest h there built
+
+    by : (k g : Bool) → is_message_constructor target ≡ k → is_get_message target ≡ g → Reaches p named m r h (cond k KeepsMessage (cond g GivesMessage (BuiltIn (chosen p named m ty))))
+    by true g keeps gives = λ args next ls rest. row args next ls rest ∙ kept target (chosen p named m ty) (r ∷ args) next ls rest h keeps
+    by false true keeps gives = λ args next ls rest. row args next ls rest ∙ given target (chosen p named m ty) (r ∷ args) next ls rest h keeps gives
+    by false false keeps gives = λ args next ls rest. row args next ls rest ∙ asked target (chosen p named m ty) (r ∷ args) next ls rest h keeps gives
+
 module _ (p : Program) (own : Method) (m : MethodId) (named : Method) (next : ℕ) (ls stack : List Value) (h : Objects) (there : method_at p m ≡ Some named) where
   -- ---- static methods
 
@@ -156,6 +216,34 @@ module _ (p : Program) (own : Method) (m : MethodId) (named : Method) (next : �
       let goes = receiver_goes r (λ w. calls_method (method_at p id) id (w ∷ reverse (take n stack)) next ls (drop (n + 1) stack) h) (ap is_stuck (sym row) ∙ fine) null in
       row ∙ (goes ∙ ap (λ (args : List Value). calls_method (method_at p id) id args next ls (drop (n + 1) stack) h) (sym (receiver_first n stack r at)))
 
+  -- the same as a call on the receiver
+  on_receiver_again : (r : Value) → slice_get stack (length named.params) ≡ Some r → (go : List Value → Value → List Value → Effect) →
+      go (take (length named.params) stack) r (drop (length named.params + 1) stack) ≡ on_call (length named.params) stack go
+  on_receiver_again r at go = sym (call_taken (length named.params) stack go r at)
+
+  -- of a built-in method
+  module _ (r : Value) (other : is_built_in_constructor named ≡ false) (at : slice_get stack (length named.params) ≡ Some r) (is_there : is_null r ≡ false) (fine : is_stuck (does p own (Invokespecial m) next ls stack h) ≡ false)
+      (method : Method) (found : method_at p (special p own named m) ≡ Some method) (built_in : method.built_in ≡ true) where
+    special_built : does p own (Invokespecial m) next ls stack h ≡ calls_built_in method (special p own named m) (reverse (take (length named.params + 1) stack)) next ls (drop (length named.params + 1) stack) h
+    special_built =
+        special_goes r other at is_there fine
+        ∙ built_in_called (method_at p (special p own named m)) method (special p own named m) (reverse (take (length named.params + 1) stack)) next ls (drop (length named.params + 1) stack) h found built_in
+
+    pub special_keeps : is_message_constructor method ≡ true → does p own (Invokespecial m) next ls stack h ≡ on_call (length named.params) stack (λ args receiver rest. keeps_message (receiver ∷ reverse args) next ls rest h)
+    special_keeps keeps =
+        special_built ∙ (kept method (special p own named m) (reverse (take (length named.params + 1) stack)) next ls (drop (length named.params + 1) stack) h keeps
+        ∙ (ap (λ (args : List Value). keeps_message args next ls (drop (length named.params + 1) stack) h) (receiver_first (length named.params) stack r at)
+        ∙ on_receiver_again r at (λ args receiver rest. keeps_message (receiver ∷ reverse args) next ls rest h)))
+
+    pub special_gives : is_message_constructor method ≡ false → is_get_message method ≡ true → does p own (Invokespecial m) next ls stack h ≡ on_call (length named.params) stack (λ args receiver rest. gives_message (receiver ∷ reverse args) next ls rest h)
+    special_gives keeps gives =
+        special_built ∙ (given method (special p own named m) (reverse (take (length named.params + 1) stack)) next ls (drop (length named.params + 1) stack) h keeps gives
+        ∙ (ap (λ (args : List Value). gives_message args next ls (drop (length named.params + 1) stack) h) (receiver_first (length named.params) stack r at)
+        ∙ on_receiver_again r at (λ args receiver rest. gives_message (receiver ∷ reverse args) next ls rest h)))
+
+    pub special_asks : is_message_constructor method ≡ false → is_get_message method ≡ false → does p own (Invokespecial m) next ls stack h ≡ Asks (special p own named m) (reverse (take (length named.params + 1) stack)) next ls (drop (length named.params + 1) stack) h
+    special_asks keeps gives = special_built ∙ asked method (special p own named m) (reverse (take (length named.params + 1) stack)) next ls (drop (length named.params + 1) stack) h keeps gives
+
   -- ---- `invokevirtual`
 
   virtual_go : List Value → Value → List Value → Effect
@@ -194,6 +282,16 @@ module _ (p : Program) (own : Method) (m : MethodId) (named : Method) (next : �
       let n : ℕ = length named.params in
       virtual_at r other at ∙ (reaches (reverse (take n stack)) next ls (drop (n + 1) stack) ∙ ap (λ (args : List Value). Asks id args next ls (drop (n + 1) stack) h) (sym (receiver_first n stack r at)))
 
+  pub virtual_keeps : (r : Value) → is_text_method p named ≡ false → slice_get stack (length named.params) ≡ Some r → Reaches p named m r h KeepsMessage →
+      does p own (Invokevirtual m) next ls stack h ≡ on_call (length named.params) stack (λ args receiver rest. keeps_message (receiver ∷ reverse args) next ls rest h)
+  virtual_keeps r other at reaches =
+      virtual_at r other at ∙ (reaches (reverse (take (length named.params) stack)) next ls (drop (length named.params + 1) stack) ∙ on_receiver_again r at (λ args receiver rest. keeps_message (receiver ∷ reverse args) next ls rest h))
+
+  pub virtual_gives : (r : Value) → is_text_method p named ≡ false → slice_get stack (length named.params) ≡ Some r → Reaches p named m r h GivesMessage →
+      does p own (Invokevirtual m) next ls stack h ≡ on_call (length named.params) stack (λ args receiver rest. gives_message (receiver ∷ reverse args) next ls rest h)
+  virtual_gives r other at reaches =
+      virtual_at r other at ∙ (reaches (reverse (take (length named.params) stack)) next ls (drop (length named.params + 1) stack) ∙ on_receiver_again r at (λ args receiver rest. gives_message (receiver ∷ reverse args) next ls rest h))
+
   pub virtual_null : (r : Value) → is_text_method p named ≡ false → slice_get stack (length named.params) ≡ Some r → Reaches p named m r h NoReceiver → does p own (Invokevirtual m) next ls stack h ≡ Raises cause.Null
   virtual_null r other at reaches = virtual_at r other at ∙ reaches (reverse (take (length named.params) stack)) next ls (drop (length named.params + 1) stack)
 
@@ -202,14 +300,54 @@ module _ (p : Program) (own : Method) (m : MethodId) (named : Method) (next : �
       let stuck = virtual_at r other at ∙ reaches (reverse (take (length named.params) stack)) next ls (drop (length named.params + 1) stack) in
       true≢false (ap is_stuck (sym stuck) ∙ fine)
 
+-- ---- the message of an exception
+
+some_at : (n : ℕ) (vs : List Value) → n < length vs → (r : Value) × (slice_get vs n ≡ Some r)
+some_at n [] less = absurd (omega (arith, less))
+some_at zero (v ∷ vs) less = (v, refl)
+some_at (suc n) (v ∷ vs) less = some_at n vs (omega (arith, less))
+
+keeps_stuck : (r : Value) (args : List Value) (next : ℕ) (ls rest : List Value) (h : Objects) → (length args ≡ 1 → ⊥) → keeps_message (r ∷ args) next ls rest h ≡ Stuck
+keeps_stuck r [] next ls rest h other = refl
+keeps_stuck r (v ∷ []) next ls rest h other = absurd (other refl)
+keeps_stuck r (v ∷ w ∷ ws) next ls rest h other = refl
+
+gives_stuck : (r : Value) (args : List Value) (next : ℕ) (ls rest : List Value) (h : Objects) → (length args ≡ 0 → ⊥) → gives_message (r ∷ args) next ls rest h ≡ Stuck
+gives_stuck r [] next ls rest h other = absurd (other refl)
+gives_stuck r (v ∷ vs) next ls rest h other = refl
+
+keeps_go : ℕ → List Value → Objects → List Value → Value → List Value → Effect
+keeps_go next ls h args receiver rest = keeps_message (receiver ∷ reverse args) next ls rest h
+
+gives_go : ℕ → List Value → Objects → List Value → Value → List Value → Effect
+gives_go next ls h args receiver rest = gives_message (receiver ∷ reverse args) next ls rest h
+
+taken_size : (n : ℕ) (stack : List Value) → n < length stack → length (reverse (take n stack)) ≡ n
+taken_size n stack less = length-reverse (take n stack) ∙ (length-take n stack ∙ omega (arith, less))
+
+-- the message is the one argument, and where it is given there is none
+pub keeps_one : (n next : ℕ) (ls stack : List Value) (h : Objects) → (n ≡ 1 → ⊥) → is_stuck (on_call n stack (λ args receiver rest. keeps_message (receiver ∷ reverse args) next ls rest h)) ≡ false → ⊥
+unfolding keeps_go
+keeps_one n next ls stack h other fine =
+    let less : n < length stack = call_there n stack (keeps_go next ls h) fine in
+    let r = some_at n stack less in
+    let size = taken_size n stack less in
+    let stuck = call_taken n stack (keeps_go next ls h) r.0 r.1 ∙ keeps_stuck r.0 (reverse (take n stack)) next ls (drop (n + 1) stack) h (λ e. other (sym size ∙ e)) in
+    true≢false (ap is_stuck (sym stuck) ∙ fine)
+
+pub gives_alone : (n next : ℕ) (ls stack : List Value) (h : Objects) → (n ≡ 0 → ⊥) → is_stuck (on_call n stack (λ args receiver rest. gives_message (receiver ∷ reverse args) next ls rest h)) ≡ false → ⊥
+unfolding gives_go
+gives_alone n next ls stack h other fine =
+    let less : n < length stack = call_there n stack (gives_go next ls h) fine in
+    let r = some_at n stack less in
+    let size = taken_size n stack less in
+    let stuck = call_taken n stack (gives_go next ls h) r.0 r.1 ∙ gives_stuck r.0 (reverse (take n stack)) next ls (drop (n + 1) stack) h (λ e. other (sym size ∙ e)) in
+    true≢false (ap is_stuck (sym stuck) ∙ fine)
+
 -- a call of a method that isn't there is stuck
 pub is_there : (o : Option Method) (id : MethodId) (args : List Value) (next : ℕ) (ls rest : List Value) (h : Objects) → is_stuck (calls_method o id args next ls rest h) ≡ false → o ≡ None → ⊥
 is_there None id args next ls rest h fine none = absurd (true≢false fine)
 is_there (Some method) id args next ls rest h fine none = absurd (cc)
-
-pub asks_built_in : (o : Option Method) (method : Method) (id : MethodId) (args : List Value) (next : ℕ) (ls rest : List Value) (h : Objects) → o ≡ Some method → method.built_in ≡ true →
-    calls_method o id args next ls rest h ≡ Asks id args next ls rest h
-asks_built_in o method id args next ls rest h there built_in = rw (there, built_in)
 
 pub calls_code : (o : Option Method) (method : Method) (id : MethodId) (args : List Value) (next : ℕ) (ls rest : List Value) (h : Objects) → o ≡ Some method → method.built_in ≡ false →
     calls_method o id args next ls rest h ≡ Calls id args next ls rest h

@@ -2,18 +2,19 @@
 
 ghost use Rattle.std.specs.Prelude.{◌≡◌, ◌≤◌, ◌<◌, ◌∷◌, [], false, true, codes, length, reverse, take, drop, option_copied, Some};
 ghost use Rattle.kilim_program.specs.declared.instr.Instr.TheVariants.{Invokevirtual, Invokespecial, Invokestatic};
+ghost use Rattle.kilim_program.specs.Lengths.{is_reference};
 ghost use Rattle.kilim_program.specs.Names.{method_at};
-ghost use Rattle.kilim_run_machine.specs.Natives.{is_built_in_constructor, is_built_in_of, is_text_method, is_take, is_handed_out};
+ghost use Rattle.kilim_run_machine.specs.Natives.{is_built_in_constructor, is_built_in_of, is_get_message, is_handed_out, is_message_constructor, is_of_message, is_take, is_text_method, takes_object};
 ghost use Rattle.kilim_run_machine.specs.Effect.{Calls, Asks, on_value, on_values, as_receiver, as_class, text_of};
-ghost use Rattle.kilim_run_machine.specs.Does.{does, chosen, special, calls_method, calls_on, calls_text, takes_element, is_text};
-ghost use Rattle.kilim_run_interp.specs.instruction.Calls.{on_call, Reaches, unit_in};
+ghost use Rattle.kilim_run_machine.specs.Does.{does, chosen, special, calls_method, calls_on, calls_text, gives_message, keeps_message, takes_element, is_text};
+ghost use Rattle.kilim_run_interp.specs.instruction.Calls.{built_in_target, on_call, Reaches, unit_in};
 ghost use Rattle.std.specs.Str.{bytes_eq};
 ghost use Rattle.kilim_run_rows.specs.Types.{is_found};
 ghost use Rattle.kilim_run_rows.specs.Outcome.{is_stuck, height, Shows, SameFrame};
 
 use kilim_program::lookups::{class_at, method_at, selected};
-use kilim_program::{Base, Method, MethodId, Program, Ty, Value};
-use kilim_run_rows::{Moved, index_in, is_none, type_of};
+use kilim_program::{Base, FieldId, Method, MethodId, Program, Ty, Value};
+use kilim_run_rows::{Moved, index_in, is_none, read_field, type_of};
 use kilim_run_state::frames::Frame;
 use kilim_run_state::{EndCause, Heap};
 use kilim_units::Units;
@@ -24,7 +25,12 @@ pub enum Target {
     /// The receiver is null.
     NoReceiver,
     WithCode(MethodId),
+    /// A built-in method that is handed out.
     BuiltIn(MethodId),
+    /// The constructor of an exception that is given the message.
+    KeepsMessage,
+    /// `getMessage`.
+    GivesMessage,
     /// There is no such method, which no verified program has.
     Nowhere,
     NoMemory,
@@ -62,13 +68,44 @@ fn is_take(program: &Program, method: &Method) -> bool
     is_built_in_of(program, b"kilim/Sys", method) && method.name.is_text(b"take")
 }
 
+fn is_reference(ty: &Ty) -> bool
+    ensures { result ≡ is_reference ty.now }
+{
+    ty.dims > 0 || matches!(ty.base, Base::Class(_))
+}
+
+fn takes_object(params: &[Ty]) -> bool
+    ensures { result ≡ takes_object params.now }
+{
+    params.len() == 1 && is_reference(&params[0])
+}
+
+fn is_message_constructor(method: &Method) -> bool
+    ensures { result ≡ is_message_constructor method.now }
+{
+    method.built_in && method.name.is_text(b"<init>") && takes_object(method.params.as_slice())
+}
+
+fn is_get_message(method: &Method) -> bool
+    ensures { result ≡ is_get_message method.now }
+{
+    method.built_in && method.name.is_text(b"getMessage")
+}
+
+pub(crate) fn is_of_message(method: &Method) -> bool
+    ensures { result ≡ is_of_message method.now }
+{
+    is_message_constructor(method) || is_get_message(method)
+}
+
 pub(crate) fn is_handed_out(program: &Program, method: &Method) -> bool
     ensures { result ≡ is_handed_out program.now method.now }
 {
     method.built_in
         && !(is_built_in_constructor(method)
             || is_text_method(program, method)
-            || is_take(program, method))
+            || is_take(program, method)
+            || is_of_message(method))
 }
 
 // ---- which method is called
@@ -106,6 +143,19 @@ fn special(program: &Program, own: &Method, named: &Method, method: MethodId) ->
     }
 }
 
+// What a call of a built-in method that has a receiver comes to.
+fn built_in_target(id: MethodId, method: &Method) -> Target
+    ensures { result ≡ built_in_target id method.now }
+{
+    if is_message_constructor(method) {
+        return Target::KeepsMessage;
+    }
+    if is_get_message(method) {
+        return Target::GivesMessage;
+    }
+    Target::BuiltIn(id)
+}
+
 fn reached(
     program: &Program,
     named: &Method,
@@ -126,7 +176,7 @@ fn reached(
     match method_at(program, id) {
         Some(target) => {
             if target.built_in {
-                Target::BuiltIn(id)
+                built_in_target(id, target)
             } else {
                 Target::WithCode(id)
             }
@@ -276,6 +326,56 @@ fn take_element(own: &Method, next: u32, frame: &mut Frame, heap: &mut Heap) -> 
     Moved::Next
 }
 
+// ---- the message of an exception
+
+// `<init>(Ljava/lang/String;)V`
+fn keep_message(count: usize, own: &Method, next: u32, frame: &mut Frame, heap: &mut Heap) -> Moved
+    requires fine { is_stuck (on_call count frame.old.stack.values (λ args receiver rest. keeps_message (receiver ∷ reverse args) next frame.old.locals rest heap.old)) ≡ false }
+    requires room { height (on_call count frame.old.stack.values (λ args receiver rest. keeps_message (receiver ∷ reverse args) next frame.old.locals rest heap.old)) ≤ frame.old.stack.room }
+    ensures step { Shows own.now (on_call count frame.old.stack.values (λ args receiver rest. keeps_message (receiver ∷ reverse args) next frame.old.locals rest heap.old)) next result frame.old frame.new heap.old heap.new }
+    ensures same { SameFrame frame.old frame.new }
+{
+    if count != 1 {
+        unreachable!()
+    }
+    keep_one(own, next, frame, heap)
+}
+
+fn keep_one(own: &Method, next: u32, frame: &mut Frame, heap: &mut Heap) -> Moved
+    requires fine { is_stuck (on_call 1 frame.old.stack.values (λ args receiver rest. keeps_message (receiver ∷ reverse args) next frame.old.locals rest heap.old)) ≡ false }
+    requires room { height (on_call 1 frame.old.stack.values (λ args receiver rest. keeps_message (receiver ∷ reverse args) next frame.old.locals rest heap.old)) ≤ frame.old.stack.room }
+    ensures step { Shows own.now (on_call 1 frame.old.stack.values (λ args receiver rest. keeps_message (receiver ∷ reverse args) next frame.old.locals rest heap.old)) next result frame.old frame.new heap.old heap.new }
+    ensures same { SameFrame frame.old frame.new }
+{
+    let message = frame.stack.pop();
+    let Some(at) = frame.stack.pop_object() else {
+        return Moved::Raised(EndCause::Null);
+    };
+    heap.set_field(at, FieldId(0), message);
+    Moved::Next
+}
+
+// `getMessage()Ljava/lang/String;`: it reads the field.
+#[tactic(auto, unfolding(kilim_run_machine::specs::Does::does))]
+fn give_message(
+    count: usize,
+    program: &Program,
+    own: &Method,
+    next: u32,
+    frame: &mut Frame,
+    heap: &Heap,
+) -> Moved
+    requires fine { is_stuck (on_call count frame.old.stack.values (λ args receiver rest. gives_message (receiver ∷ reverse args) next frame.old.locals rest heap.now)) ≡ false }
+    requires room { height (on_call count frame.old.stack.values (λ args receiver rest. gives_message (receiver ∷ reverse args) next frame.old.locals rest heap.now)) ≤ frame.old.stack.room }
+    ensures step { Shows own.now (on_call count frame.old.stack.values (λ args receiver rest. gives_message (receiver ∷ reverse args) next frame.old.locals rest heap.now)) next result frame.old frame.new heap.now heap.now }
+    ensures same { SameFrame frame.old frame.new }
+{
+    if count != 0 {
+        unreachable!()
+    }
+    read_field(FieldId(0), program, own, next, frame, heap)
+}
+
 // ---- the instructions
 
 /// `invokestatic`.
@@ -316,11 +416,11 @@ pub fn call_special(
     own: &Method,
     next: u32,
     frame: &mut Frame,
-    heap: &Heap,
+    heap: &mut Heap,
 ) -> Moved
-    requires fine { is_stuck (does program.now own.now (Invokespecial method) next frame.old.locals frame.old.stack.values heap.now) ≡ false }
-    requires room { height (does program.now own.now (Invokespecial method) next frame.old.locals frame.old.stack.values heap.now) ≤ frame.old.stack.room }
-    ensures step { Shows own.now (does program.now own.now (Invokespecial method) next frame.old.locals frame.old.stack.values heap.now) next result frame.old frame.new heap.now heap.now }
+    requires fine { is_stuck (does program.now own.now (Invokespecial method) next frame.old.locals frame.old.stack.values heap.old) ≡ false }
+    requires room { height (does program.now own.now (Invokespecial method) next frame.old.locals frame.old.stack.values heap.old) ≤ frame.old.stack.room }
+    ensures step { Shows own.now (does program.now own.now (Invokespecial method) next frame.old.locals frame.old.stack.values heap.old) next result frame.old frame.new heap.old heap.new }
     ensures same { SameFrame frame.old frame.new }
 {
     let Some(named) = method_at(program, method) else {
@@ -344,11 +444,11 @@ pub fn call_virtual(
     own: &Method,
     next: u32,
     frame: &mut Frame,
-    heap: &Heap,
+    heap: &mut Heap,
 ) -> Moved
-    requires fine { is_stuck (does program.now own.now (Invokevirtual method) next frame.old.locals frame.old.stack.values heap.now) ≡ false }
-    requires room { height (does program.now own.now (Invokevirtual method) next frame.old.locals frame.old.stack.values heap.now) ≤ frame.old.stack.room }
-    ensures step { Shows own.now (does program.now own.now (Invokevirtual method) next frame.old.locals frame.old.stack.values heap.now) next result frame.old frame.new heap.now heap.now }
+    requires fine { is_stuck (does program.now own.now (Invokevirtual method) next frame.old.locals frame.old.stack.values heap.old) ≡ false }
+    requires room { height (does program.now own.now (Invokevirtual method) next frame.old.locals frame.old.stack.values heap.old) ≤ frame.old.stack.room }
+    ensures step { Shows own.now (does program.now own.now (Invokevirtual method) next frame.old.locals frame.old.stack.values heap.old) next result frame.old frame.new heap.old heap.new }
     ensures same { SameFrame frame.old frame.new }
 {
     let Some(named) = method_at(program, method) else {
@@ -367,14 +467,15 @@ fn call_named(
     program: &Program,
     own: &Method,
     next: u32,
-    frame: &Frame,
-    heap: &Heap,
+    frame: &mut Frame,
+    heap: &mut Heap,
 ) -> Moved
     requires there { method_at program.now method ≡ Some named.now }
     requires other { is_built_in_constructor named.now ≡ false }
-    requires fine { is_stuck (does program.now own.now (Invokespecial method) next frame.now.locals frame.now.stack.values heap.now) ≡ false }
-    requires room { height (does program.now own.now (Invokespecial method) next frame.now.locals frame.now.stack.values heap.now) ≤ frame.now.stack.room }
-    ensures step { Shows own.now (does program.now own.now (Invokespecial method) next frame.now.locals frame.now.stack.values heap.now) next result frame.now frame.now heap.now heap.now }
+    requires fine { is_stuck (does program.now own.now (Invokespecial method) next frame.old.locals frame.old.stack.values heap.old) ≡ false }
+    requires room { height (does program.now own.now (Invokespecial method) next frame.old.locals frame.old.stack.values heap.old) ≤ frame.old.stack.room }
+    ensures step { Shows own.now (does program.now own.now (Invokespecial method) next frame.old.locals frame.old.stack.values heap.old) next result frame.old frame.new heap.old heap.new }
+    ensures same { SameFrame frame.old frame.new }
 {
     let count = named.params.len();
     let height = frame.stack.len();
@@ -388,11 +489,16 @@ fn call_named(
     let Some(target) = method_at(program, id) else {
         unreachable!()
     };
-    if target.built_in {
-        Moved::Asked(id, count + 1)
-    } else {
-        Moved::Called(id, count + 1)
+    if !target.built_in {
+        return Moved::Called(id, count + 1);
     }
+    if is_message_constructor(target) {
+        return keep_message(count, own, next, frame, heap);
+    }
+    if is_get_message(target) {
+        return give_message(count, program, own, next, frame, heap);
+    }
+    Moved::Asked(id, count + 1)
 }
 
 // `invokevirtual` of a method of no string.
@@ -402,14 +508,15 @@ fn call_chosen(
     program: &Program,
     own: &Method,
     next: u32,
-    frame: &Frame,
-    heap: &Heap,
+    frame: &mut Frame,
+    heap: &mut Heap,
 ) -> Moved
     requires there { method_at program.now method ≡ Some named.now }
     requires other { is_text_method program.now named.now ≡ false }
-    requires fine { is_stuck (does program.now own.now (Invokevirtual method) next frame.now.locals frame.now.stack.values heap.now) ≡ false }
-    requires room { height (does program.now own.now (Invokevirtual method) next frame.now.locals frame.now.stack.values heap.now) ≤ frame.now.stack.room }
-    ensures step { Shows own.now (does program.now own.now (Invokevirtual method) next frame.now.locals frame.now.stack.values heap.now) next result frame.now frame.now heap.now heap.now }
+    requires fine { is_stuck (does program.now own.now (Invokevirtual method) next frame.old.locals frame.old.stack.values heap.old) ≡ false }
+    requires room { height (does program.now own.now (Invokevirtual method) next frame.old.locals frame.old.stack.values heap.old) ≤ frame.old.stack.room }
+    ensures step { Shows own.now (does program.now own.now (Invokevirtual method) next frame.old.locals frame.old.stack.values heap.old) next result frame.old frame.new heap.old heap.new }
+    ensures same { SameFrame frame.old frame.new }
 {
     let count = named.params.len();
     let height = frame.stack.len();
@@ -419,6 +526,8 @@ fn call_chosen(
     match reached(program, named, method, frame.stack.peek(count), heap) {
         Target::WithCode(id) => Moved::Called(id, count + 1),
         Target::BuiltIn(id) => Moved::Asked(id, count + 1),
+        Target::KeepsMessage => keep_message(count, own, next, frame, heap),
+        Target::GivesMessage => give_message(count, program, own, next, frame, heap),
         Target::NoReceiver => Moved::Raised(EndCause::Null),
         Target::Nowhere => unreachable!(),
         Target::NoMemory => Moved::NoMemory,

@@ -31,11 +31,9 @@ fn act_far(
     ensures step { Shows own.now (does program.now own.now instr.now next frame.old.locals frame.old.stack.values heap.old) next result frame.old frame.new heap.old heap.new }
     ensures same { SameFrame frame.old frame.new }
 {
-    // Calls of methods with a receiver only read the heap.
-    let read: &Heap = heap;
     match *instr {
-        Instr::Invokevirtual(method) => call_virtual(method, program, own, next, frame, read),
-        Instr::Invokespecial(method) => call_special(method, program, own, next, frame, read),
+        Instr::Invokevirtual(method) => call_virtual(method, program, own, next, frame, heap),
+        Instr::Invokespecial(method) => call_special(method, program, own, next, frame, heap),
         Instr::Invokestatic(method) => call_static(method, program, own, next, frame, heap),
         Instr::New(class) => make_object(alloc, class, program, own, next, frame, heap),
         Instr::Newarray(base) => make_primitive_array(alloc, base, program, own, next, frame, heap),

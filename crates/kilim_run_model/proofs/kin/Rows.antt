@@ -1,8 +1,8 @@
 -- What an instruction does doesn't depend on the names of objects.
 use Rattle.std.specs.Prelude.{codes}
 use Rattle.std.specs.Str.{bytes_eq}
-use Rattle.kilim_run_machine.specs.Does.{long_shift, loads_int, stores_int, calls_text, text_answers, is_text, unit_at, at_unit, bit, calls_method, chosen, special, narrowed_result}
-use Rattle.kilim_run_machine.specs.Natives.{is_text_method, is_built_in_constructor, is_handed_out}
+use Rattle.kilim_run_machine.specs.Does.{long_shift, loads_int, stores_int, calls_text, text_answers, is_text, unit_at, at_unit, bit, calls_built_in, calls_method, chosen, gives_message, keeps_message, special, narrowed_result}
+use Rattle.kilim_run_machine.specs.Natives.{is_text_method, is_built_in_constructor, is_get_message, is_handed_out, is_message_constructor}
 use Rattle.kilim_run_state.specs.Objects.{first_value_of, first_value, first_field, new_object, new_array}
 use Rattle.kilim_run_state.specs.Shapes.{field_in}
 use Rattle.kilim_run_model.proofs.kin.Words.{constant_kin}
@@ -27,6 +27,7 @@ use Rattle.kilim_program.specs.declared.ty.Base.TheVariants as base
 use Rattle.kilim_program.specs.declared.ty.Ty.{Ty}
 use Rattle.kilim_program.specs.declared.value.Value.{Value}
 use Rattle.kilim_program.specs.declared.value.Value.TheVariants.{Int, Long, Null, Ref, Text, Box, Fiber}
+use Rattle.kilim_program.specs.BuiltIn.{message_field}
 use Rattle.kilim_program.specs.Program.{Program}
 use Rattle.kilim_run_state.specs.Machine.{Objects}
 use Rattle.kilim_program.specs.Names.{method_at, field_of}
@@ -38,7 +39,7 @@ use Rattle.kilim_run_model.specs.kin.Kin.{Names, Owner, IsKin, AreKin, FieldsKin
 use Rattle.kilim_run_model.specs.kin.Laws.{RowsKin}
 use Rattle.kilim_run_model.proofs.kin.Kins.{kin_append, kin_reverse, kin_get, kin_set, kin_replicate, kin_length}
 use Rattle.kilim_run_model.proofs.kin.Renamed.{number_of, renamed, kin_is}
-use Rattle.kilim_run_model.proofs.kin.Words.{some_kin, slot_kin, value_kin, values_kin, int_kin, long_kin, on_int_kin, on_two_ints_kin, on_long_kin, on_two_longs_kin, reference_kin, on_reference_kin, on_receiver_kin, receiver_kin, when_kin, word_kin, two_words_kin, object_kin, class_kin, index_kin, cond_kin, written}
+use Rattle.kilim_run_model.proofs.kin.Words.{some_kin, slot_kin, value_kin, values_kin, int_kin, long_kin, on_int_kin, on_two_ints_kin, on_long_kin, on_two_longs_kin, reference_kin, on_reference_kin, on_receiver_kin, receiver_kin, when_kin, word_kin, two_words_kin, at_object_kin, object_kin, class_kin, index_kin, cond_kin, written}
 
 held_turn : (good : ℕ → Type 0) (vs cs : List Value) → AreHeld good vs → AreHeld good cs → AreHeld good (reverse_aux vs cs)
 held_turn good [] cs e d = d
@@ -210,9 +211,37 @@ module _ (p : Program) (own : Method) (good : ℕ → Type 0) (of : Names) (owne
         sized (pos n) rs ss r = cond_kin good of owner t h k alike there (nat_lt array_limit n) _ _ _ _ refl (array_kin ty v n e, refl, l, r, refl, refl)
         sized (negsuc n) rs ss r = refl
 
+    keeps_kin : (xs ys rs ss : List Value) → AreKin of xs ys → AreHeld good xs → AreKin of rs ss → EKin (keeps_message xs next ls rs h) (keeps_message ys next ms ss k)
+    keeps_kin [] [] rs ss e g d = tt
+    keeps_kin (v ∷ []) (w ∷ []) rs ss e g d = tt
+    keeps_kin (v ∷ a ∷ []) (w ∷ b ∷ []) rs ss e g d = at_object_kin good of owner t h k alike there v w (e.0, g.0) _ _ (λ n x o q held.
+        slot_kin good of owner t h k alike there _ _ (field_get o.fields q.fields message_field held.3.fields) _ _ (λ old was i.
+        (refl, l, d, written good of owner t h k alike there n x o q held _ _ (record { class = held.3.class; fields = field_set o.fields q.fields message_field a b held.3.fields e.1.0; elements = held.3.elements }))))
+    keeps_kin (v ∷ a ∷ c ∷ xs) (w ∷ b ∷ x ∷ ys) rs ss e g d = tt
+    keeps_kin [] (w ∷ ys) rs ss e g d = absurd e
+    keeps_kin (v ∷ xs) [] rs ss e g d = absurd e
+    keeps_kin (v ∷ []) (w ∷ b ∷ ys) rs ss e g d = absurd e.1
+    keeps_kin (v ∷ a ∷ xs) (w ∷ []) rs ss e g d = absurd e.1
+    keeps_kin (v ∷ a ∷ []) (w ∷ b ∷ x ∷ ys) rs ss e g d = absurd e.1.1
+    keeps_kin (v ∷ a ∷ c ∷ xs) (w ∷ b ∷ []) rs ss e g d = absurd e.1.1
+
+    gives_kin : (xs ys rs ss : List Value) → AreKin of xs ys → AreHeld good xs → AreKin of rs ss → EKin (gives_message xs next ls rs h) (gives_message ys next ms ss k)
+    gives_kin [] [] rs ss e g d = tt
+    gives_kin (v ∷ []) (w ∷ []) rs ss e g d = at_object_kin good of owner t h k alike there v w (e.0, g.0) _ _ (λ n x o q held.
+        slot_kin good of owner t h k alike there _ _ (field_get o.fields q.fields message_field held.3.fields) _ _ (λ a b i. (refl, l, (i, d), alike)))
+    gives_kin (v ∷ a ∷ xs) (w ∷ b ∷ ys) rs ss e g d = tt
+    gives_kin [] (w ∷ ys) rs ss e g d = absurd e
+    gives_kin (v ∷ xs) [] rs ss e g d = absurd e
+    gives_kin (v ∷ []) (w ∷ b ∷ ys) rs ss e g d = absurd e.1
+    gives_kin (v ∷ a ∷ xs) (w ∷ []) rs ss e g d = absurd e.1
+
+    built_in_kin : (method : Method) (m : MethodId) (xs ys rs ss : List Value) → AreKin of xs ys → AreHeld good xs → AreKin of rs ss → EKin (calls_built_in method m xs next ls rs h) (calls_built_in method m ys next ms ss k)
+    built_in_kin method m xs ys rs ss e g d = cond_kin good of owner t h k alike there (is_message_constructor method) _ _ _ _ (keeps_kin xs ys rs ss e g d)
+        (cond_kin good of owner t h k alike there (is_get_message method) _ _ _ _ (gives_kin xs ys rs ss e g d) (refl, e, refl, l, d, refl, refl, g))
+
     method_kin : (o : Option Method) (m : MethodId) (xs ys rs ss : List Value) → AreKin of xs ys → AreHeld good xs → AreKin of rs ss → EKin (calls_method o m xs next ls rs h) (calls_method o m ys next ms ss k)
     method_kin None m xs ys rs ss e g d = tt
-    method_kin (Some method) m xs ys rs ss e g d = cond_kin good of owner t h k alike there method.built_in _ _ _ _ (refl, e, refl, l, d, refl, refl, g) (refl, e, refl, l, d, refl, refl)
+    method_kin (Some method) m xs ys rs ss e g d = cond_kin good of owner t h k alike there method.built_in _ _ _ _ (built_in_kin method m xs ys rs ss e g d) (refl, e, refl, l, d, refl, refl)
 
     called_kin : (method : Method) (m : MethodId) (xs ys rs ss : List Value) (v w : Value) → AreKin of xs ys → AreKin of rs ss → IsKin of v w → AreHeld good (v ∷ xs) → (c : Option Ty) → EKin (calls_on p method m xs next ls rs h v c) (calls_on p method m ys next ms ss k w c)
     called_kin method m xs ys rs ss v w e d q g None = refl

@@ -16,6 +16,7 @@ use Rattle.kilim_program.specs.declared.ty.Base.TheVariants as base
 use Rattle.kilim_program.specs.declared.ty.Ty.{Ty}
 use Rattle.kilim_program.specs.declared.value.Value.{Value}
 use Rattle.kilim_program.specs.declared.value.Value.TheVariants.{Int, Long, Null, Ref, Text, Box, Fiber}
+use Rattle.kilim_program.specs.BuiltIn.{message_field}
 use Rattle.kilim_program.specs.Lengths.{fetched}
 use Rattle.kilim_program.specs.Names.{class_name, method_at, field_of}
 use Rattle.kilim_run_state.specs.declared.cause.EndCause.{EndCause}
@@ -24,16 +25,16 @@ use Rattle.kilim_run_state.specs.declared.value.Object.{Object}
 use Rattle.kilim_run_state.specs.declared.value.Token.{Token}
 use Rattle.kilim_run_state.specs.Machine.{Objects, Activation}
 use Rattle.kilim_program.specs.Members.{execute_of}
-use Rattle.kilim_run_machine.specs.Natives.{Native, native_of, is_built_in_constructor, is_handed_out, is_text_method}
+use Rattle.kilim_run_machine.specs.Natives.{Native, native_of, is_built_in_constructor, is_get_message, is_handed_out, is_message_constructor, is_text_method}
 use Rattle.kilim_run_machine.specs.Natives as native
 use Rattle.kilim_run_state.specs.Shapes.{field_in, shape_of}
 use Rattle.kilim_run_machine.specs.Effect.{Effect, with_some, on_value, on_values, on_receiver, as_reference, as_receiver, as_int, as_long, on_int, on_two_ints, on_long, on_two_longs, is_wide, when, wide_or, on_word, on_two_words, on_reference, as_object, on_object, as_class, at_place, at_index, on_constant, text_of}
 use Rattle.kilim_run_machine.specs.Effect as effect
-use Rattle.kilim_run_machine.specs.Does.{does, makes_array, array_limit, calls_method, calls_on, chosen, special, unit_at, at_unit, text_answers, calls_text, loads_int, stores_int, cast_fits, element_type, is_mailbox, throws_object}
+use Rattle.kilim_run_machine.specs.Does.{does, makes_array, array_limit, calls_method, calls_on, chosen, gives_message, keeps_message, special, unit_at, at_unit, text_answers, calls_text, loads_int, stores_int, cast_fits, element_type, is_mailbox, throws_object}
 use Rattle.kilim_run_machine.specs.Moves.{Move, receiver_of, push_value, moves, move_by, called, returned, entered, goes_on, frame_limit, effect_found, effect_in, effect_of}
 use Rattle.kilim_run_machine.specs.Moves as move
 use Rattle.kilim_run_model.specs.State.{Setting, Thread, Alive, Ended, begun_on}
-use Rattle.kilim_run_model.specs.Lone.{Lone, Next, next_move, thread_next, frames_next, next_by, opens_next, finish_next, begins_next, asks_next, native_next, message_next, put_next, put_wait_next, wait_next, bound_next, start_next, print_next, printed, arg_next, arg_at, over, raised, went, on_heap, box_limit}
+use Rattle.kilim_run_model.specs.Lone.{Lone, Next, next_move, thread_next, frames_next, next_by, opens_next, finish_next, begins_next, asks_next, native_next, message_next, put_next, put_wait_next, wait_next, bound_next, start_next, print_next, printed, arg_next, arg_at, over, went, on_heap, box_limit}
 use Rattle.kilim_run_model.specs.Lone as next
 use Rattle.kilim_run_model.specs.Moving.{is_others, is_tasks}
 use Rattle.kilim_run_model.proofs.Raised.{raised_has, raises_has, throws_has}
@@ -173,9 +174,21 @@ sized_fine : (ty : Ty) (v : Value) (n : ℤ) (next : ℕ) (ls rs : List Value) (
 sized_fine ty v (negsuc n) next ls rs h = refl
 sized_fine ty v (pos n) next ls rs h = cond_fine (nat_lt array_limit n) _ _ refl tt
 
+keeps_fine : (args : List Value) (next : ℕ) (ls rs : List Value) (h : Objects) → Fine (keeps_message args next ls rs h)
+keeps_fine [] next ls rs h = tt
+keeps_fine (v ∷ []) next ls rs h = tt
+keeps_fine (v ∷ w ∷ []) next ls rs h = as_object_fine v h _ (λ n o. some_fine (field_in o.fields message_field) _ (λ old. tt))
+keeps_fine (v ∷ w ∷ x ∷ xs) next ls rs h = tt
+
+gives_fine : (args : List Value) (next : ℕ) (ls rs : List Value) (h : Objects) → Fine (gives_message args next ls rs h)
+gives_fine [] next ls rs h = tt
+gives_fine (v ∷ []) next ls rs h = as_object_fine v h _ (λ n o. some_fine (field_in o.fields message_field) _ (λ w. tt))
+gives_fine (v ∷ w ∷ ws) next ls rs h = tt
+
 method_fine : (o : Option Method) (m : MethodId) (args : List Value) (next : ℕ) (ls rs : List Value) (h : Objects) → Fine (calls_method o m args next ls rs h)
 method_fine None m args next ls rs h = tt
-method_fine (Some method) m args next ls rs h = cond_fine method.built_in _ _ tt tt
+method_fine (Some method) m args next ls rs h =
+    cond_fine method.built_in _ _ (cond_fine (is_message_constructor method) _ _ (keeps_fine args next ls rs h) (cond_fine (is_get_message method) _ _ (gives_fine args next ls rs h) tt)) tt
 
 calls_fine : (p : Program) (named : Method) (m : MethodId) (args : List Value) (next : ℕ) (ls rs : List Value) (h : Objects) (v : Value) (c : Option Ty) → Fine (calls_on p named m args next ls rs h v c)
 calls_fine p named m args next ls rs h v None = refl

@@ -1,5 +1,6 @@
 -- Arguments as locals.
-use Rattle.std.proofs.Common.{◌≡◌, refl, sym, ap, true, false, true≢false, List, [], ◌∷◌, ◌++◌}
+use Rattle.std.proofs.Common.{◌≡◌, ◌∙◌, refl, sym, ap, ℕ, ◌+◌, ◌<◌, true, false, true≢false, List, [], ◌∷◌, ◌++◌, append_assoc, get_or, length, take}
+use Rattle.std.proofs.lemmas.List.{take_more}
 use Rattle.kilim_program.specs.declared.value.Value.{Value}
 use Rattle.kilim_program.specs.declared.value.Value.TheVariants.{Int, Long, Null, Ref, Text, Box, Fiber}
 use Rattle.kilim_run_state.specs.Machine.{slots_of}
@@ -32,3 +33,13 @@ slots_of_other (Ref n) narrow = refl
 slots_of_other (Text t) narrow = refl
 slots_of_other (Box b) narrow = refl
 slots_of_other Fiber narrow = refl
+
+-- one argument more, in its slots
+pub laid_more : (before now next args : List Value) (i : ℕ) (v d : Value) → i < length args → v ≡ get_or args i d → now ≡ before ++ slots_of (take i args) → next ≡ now ++ slots_of (v ∷ []) → next ≡ before ++ slots_of (take (i + 1) args)
+laid_more before now next args i v d less is so_far step =
+    let more : take i args ++ v ∷ [] ≡ take (i + 1) args = ap (λ (z : Value). take i args ++ z ∷ []) is ∙ sym (take_more args i d less) in
+    step
+    ∙ ap (λ (zs : List Value). zs ++ slots_of (v ∷ [])) so_far
+    ∙ append_assoc before (slots_of (take i args)) (slots_of (v ∷ []))
+    ∙ ap (λ (zs : List Value). before ++ zs) (sym (slots_append (take i args) (v ∷ [])))
+    ∙ ap (λ (zs : List Value). before ++ slots_of zs) more

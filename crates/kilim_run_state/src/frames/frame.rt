@@ -56,6 +56,21 @@ impl Locals {
         })
     }
 
+    /// Values become the locals with which a method begins, in place of those that are there.
+    pub fn begin(&mut self, arguments: &[Value], slots: usize) -> Result<(), AllocError>
+        ensures { OnOk result (self.new ≡ begun_with arguments.now slots) }
+    {
+        self.items.truncate(0);
+        let Ok(()) = self.items.reserve(slots) else {
+            return Err(AllocError);
+        };
+        let Ok(()) = lay(&mut self.items, arguments) else {
+            return Err(AllocError);
+        };
+        let missing = slots.saturating_sub(self.items.len());
+        fill(&mut self.items, missing)
+    }
+
     /// No locals. Takes no memory.
     #[inline(always)]
     pub fn none(alloc: Global) -> Locals
@@ -97,6 +112,61 @@ pub fn no_frame(alloc: Global, method: MethodId) -> Frame
         locals: Locals::none(alloc),
         stack: Stack::none(alloc),
     }
+}
+
+// Copies of values, in their slots, behind those that are there.
+#[tactic(auto, using(crate::proofs::frames::Slots::slots_append))]
+fn lay(items: &mut Vec<Value>, arguments: &[Value]) -> Result<(), AllocError>
+    ensures { OnOk result (items.new.items ≡ items.old.items ++ slots_of arguments.now) }
+{
+    for value in arguments {
+        let Ok(()) = lay_one(items, value) else {
+            return Err(AllocError);
+        };
+    }
+    Ok(())
+}
+
+// A copy of a value. A long takes two slots.
+#[inline(always)]
+fn lay_one(items: &mut Vec<Value>, value: &Value) -> Result<(), AllocError>
+    ensures { OnOk result (items.new.items ≡ items.old.items ++ slots_of (value.now ∷ [])) }
+{
+    match value {
+        Value::Ref(name) => put(items, Value::Ref(*name)),
+        Value::Int(x) => put(items, Value::Int(*x)),
+        Value::Long(x) => {
+            let Ok(()) = put(items, Value::Long(*x)) else {
+                return Err(AllocError);
+            };
+            put(items, Value::Null)
+        }
+        other => match other.clone() {
+            Ok(copy) => put(items, copy),
+            Err(fault) => Err(fault),
+        },
+    }
+}
+
+#[inline(always)]
+fn put(items: &mut Vec<Value>, value: Value) -> Result<(), AllocError>
+    ensures { OnOk result (items.new.items ≡ items.old.items ++ value ∷ []) }
+{
+    match items.push(value) {
+        Ok(()) => Ok(()),
+        Err(_) => Err(AllocError),
+    }
+}
+
+fn fill(items: &mut Vec<Value>, count: usize) -> Result<(), AllocError>
+    ensures { OnOk result (items.new.items ≡ items.old.items ++ replicate count Null) }
+{
+    for _ in 0..count {
+        let Ok(()) = put(items, Value::Null) else {
+            return Err(AllocError);
+        };
+    }
+    Ok(())
 }
 
 // Values in their slots, with room for so many.

@@ -1,6 +1,6 @@
 //! An operand stack (JVMS 2.6.2), with room made once.
 
-ghost use Rattle.std.specs.Prelude.{◌≡◌, ◌<◌, ◌≤◌, ◌++◌, ◌∷◌, [], ℕ, true, length, reverse, take, drop, IfOk, OnOk, slice_get, Some, vec_capacity};
+ghost use Rattle.std.specs.Prelude.{◌≡◌, ◌<◌, ◌≤◌, ◌++◌, ◌∷◌, [], ℕ, true, length, reverse, take, drop, IfOk, OnErr, OnOk, slice_get, Some, vec_capacity};
 ghost use Rattle.kilim_run_state.specs.frames.Stacked.{Stacked, top_is, is_int, is_long, is_object, object_value};
 ghost use Rattle.kilim_program.specs.declared.value.Value.TheVariants as a_value;
 
@@ -114,6 +114,58 @@ impl Stack {
         &self.values[self.values.len() - 1 - depth]
     }
 
+    /// Puts a copy of a value on top. For want of memory, which a text may have alone, the stack stays as it was.
+    #[inline(always)]
+    pub fn push_copy(&mut self, value: &Value) -> Result<(), AllocError>
+        requires { length self.old.values < self.old.room }
+        ensures ok { OnOk result (self.new ≡ record self.old { values = value.now ∷ self.old.values }) }
+        ensures err { OnErr result (self.new ≡ self.old) }
+    {
+        match value {
+            Value::Ref(name) => {
+                self.push(Value::Ref(*name));
+                Ok(())
+            }
+            Value::Int(x) => {
+                self.push(Value::Int(*x));
+                Ok(())
+            }
+            Value::Fiber => {
+                self.push(Value::Fiber);
+                Ok(())
+            }
+            other => match other.clone() {
+                Ok(copy) => {
+                    self.push(copy);
+                    Ok(())
+                }
+                Err(fault) => Err(fault),
+            },
+        }
+    }
+
+    /// So many of the topmost values, the lowest first.
+    #[inline(always)]
+    pub fn topmost(&self, count: usize) -> &[Value]
+        requires { count ≤ length self.now.values }
+        ensures { result.now ≡ reverse (take count self.now.values) }
+    {
+        let start = self.values.len() - count;
+        &self.values[start..]
+    }
+
+    /// Empties the stack, with room for so many values.
+    pub fn begin(&mut self, room: usize) -> Result<(), AllocError>
+        ensures { OnOk result (self.new ≡ record { values = []; room = room }) }
+    {
+        self.values.truncate(0);
+        let Ok(()) = self.values.reserve(room) else {
+            return Err(AllocError);
+        };
+        self.room = room;
+        Ok(())
+    }
+
     /// A copy of so many of the topmost values, the lowest first.
     pub fn last(&self, alloc: Global, count: usize) -> Result<Vec<Value>, AllocError>
         requires { count ≤ length self.now.values }
@@ -148,7 +200,7 @@ impl Stack {
 }
 
 // A copy of a value behind those that are there.
-fn push_copy(into: &mut Seq<Value>, value: &Value) -> Result<(), AllocError>
+fn append_copy(into: &mut Seq<Value>, value: &Value) -> Result<(), AllocError>
     ensures { OnOk result (into.new ≡ into.old ++ value.now ∷ []) }
 {
     match value.clone() {
@@ -166,7 +218,7 @@ fn copies(alloc: Global, values: &[Value]) -> Result<Vec<Value>, AllocError>
     };
     let mut copies = Seq::from_vec(room);
     for value in values {
-        let Ok(()) = push_copy(&mut copies, value) else {
+        let Ok(()) = append_copy(&mut copies, value) else {
             return Err(AllocError);
         };
     }

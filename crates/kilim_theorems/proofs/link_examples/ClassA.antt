@@ -55,7 +55,9 @@ keeps = record {
   frames = refl;
   frame_types = refl;
   handlers = refl;
-  built_in = record { own_classes = a_class ∷ []; own_methods = a_constructor ∷ a_execute ∷ []; classes = refl; methods = refl; bodies = refl };
+  catches = refl;
+  paused = refl;
+  built_in = record { own_classes = a_class ∷ []; own_methods = a_constructor ∷ a_execute ∷ []; own_fields = []; classes = refl; methods = refl; fields = refl; bodies = refl };
   members = refl;
   names = refl;
   class_names = refl;

@@ -21,7 +21,7 @@ use Rattle.kilim_program.specs.Keeps.{ids_are_places, none_is_its_ancestor, code
 use Rattle.kilim_program.specs.Lengths.{has_length, jump_targets, ends_path, code_stands, targets_stand, code_ends, places_increase}
 use Rattle.kilim_program.specs.Keeps.{Keeps}
 use Rattle.kilim_theorems.specs.link_examples.Examples.{a_class, a_constructor}
-use Rattle.kilim_theorems.specs.link_examples.Programs.{ProgramsAreLinked, woven_file, woven_program, woven_execute, q_file, p_linked, q_class, p_class, m_method, pair_program}
+use Rattle.kilim_theorems.specs.link_examples.Programs.{ProgramsAreLinked, woven_file, woven_program, woven_execute, q_file, p_linked, q_class, p_class, m_method, x_field, pair_program}
 
 woven : Linked (woven_file ∷ []) Woven woven_program
 unfolding types_on_member params_in class_text world_of qualified instrs_from decoded instr_in frames_from program_of members_named mentions_of class_names all_types declared_twice class_missing is_circular circular member_missing left_out_parts left_out both_kinds field_kinds override_differs code_broken descriptor_broken super_kind is_class_name name_broken abstract_left handler_faults problems_of link_faults first_fault targets_of is_place first_failing mid_target ends falls_off body_fault rows opcodes_form_of target_at zeros_at range_at table_at count_at opcodes_pair_at pairs_at lookup_at wide_operands_at wide_at operands_at instr_at descriptors_class_at base_at field_behind field_at param_at params_at result_at whole_field whole_method text_of has_its_code
@@ -40,7 +40,9 @@ woven_keeps = record {
   frames = refl;
   frame_types = refl;
   handlers = refl;
-  built_in = record { own_classes = a_class ∷ []; own_methods = a_constructor ∷ woven_execute ∷ []; classes = refl; methods = refl; bodies = refl };
+  catches = refl;
+  paused = refl;
+  built_in = record { own_classes = a_class ∷ []; own_methods = a_constructor ∷ woven_execute ∷ []; own_fields = []; classes = refl; methods = refl; fields = refl; bodies = refl };
   members = refl;
   names = refl;
   class_names = refl;
@@ -72,7 +74,9 @@ pair_keeps = record {
   frames = refl;
   frame_types = refl;
   handlers = refl;
-  built_in = record { own_classes = q_class ∷ p_class ∷ []; own_methods = m_method ∷ []; classes = refl; methods = refl; bodies = refl };
+  catches = refl;
+  paused = refl;
+  built_in = record { own_classes = q_class ∷ p_class ∷ []; own_methods = m_method ∷ []; own_fields = x_field ∷ []; classes = refl; methods = refl; fields = refl; bodies = refl };
   members = refl;
   names = refl;
   class_names = refl;

@@ -44,7 +44,7 @@ same_fields (u ∷ us) (v ∷ vs) all (suc k) lt = same_fields us vs all.1 k (om
 pub members_stay : MembersStay
 members_stay u v all c lt = record {
   method_numbers = same_sum (λ (x : ClassView). length x.methods) (λ x y same. same_length x.methods y.methods same.methods) u.classes v.classes all c.0 lt;
-  field_numbers = same_sum (λ (x : ClassView). length x.fields) (λ x y same. ap length same.fields) u.classes v.classes all c.0 lt;
+  field_numbers = ap suc (same_sum (λ (x : ClassView). length x.fields) (λ x y same. ap length same.fields) u.classes v.classes all c.0 lt);
   methods = same_methods u.classes v.classes all c.0 lt;
   fields = same_fields u.classes v.classes all c.0 lt;
 }

@@ -107,13 +107,16 @@ native = LeftOutOf (class_with 0x0020 p_name object nothing [] 0x0108 [] ∷ [])
 abbrev pub an_interface : Type 0
 an_interface = LeftOutOf (file_with 0x0600 p_name object [] ∷ []) (problem.LeftOut part.Interface)
 
+-- a method that pauses, with an exception table
 abbrev pub handlers : Type 0
 handlers =
     let attribute : Attribute = record {
       attribute_name_index = 7;
       info = info.Code (record { max_stack = 0; max_locals = 0; code = 177 ∷ []; exception_table = record { start_pc = 0; end_pc = 1; handler_pc = 0; catch_type = 0 } ∷ []; attributes = [] });
     } in
-    LeftOutOf (class_with 0x0020 p_name object nothing [] 0x0008 (attribute ∷ []) ∷ []) (problem.LeftOut part.Handlers)
+    let pauses : Attribute = record { attribute_name_index = 10; info = info.Exceptions (9 ∷ []) } in
+    LeftOutOf (class_with 0x0020 p_name object nothing (entry.Utf8 (codes "kilim/Pausable") ∷ entry.Class 8 ∷ entry.Utf8 (codes "Exceptions") ∷ []) 0x0008 (attribute ∷ pauses ∷ []) ∷ [])
+    (problem.LeftOut part.PausableHandlers)
 
 abbrev pub pausable_constructor : Type 0
 pausable_constructor =

@@ -15,7 +15,7 @@ use Rattle.kilim_program.specs.declared.instr.Instr.{Instr}
 use Rattle.kilim_program.specs.declared.instr.Instr.TheVariants.{Aload, Bipush, Invokespecial, Invokestatic, Return}
 use Rattle.kilim_program.specs.declared.ty.Qualifier.TheVariants.{Cuttable}
 use Rattle.kilim_program.specs.Program.{Program}
-use Rattle.kilim_program.specs.BuiltIn.{class_id, method_id, built_in_classes, built_in_methods}
+use Rattle.kilim_program.specs.BuiltIn.{class_id, method_id, built_in_classes, built_in_fields, built_in_methods}
 use Rattle.kilim_program.specs.Keeps.{Keeps}
 use Rattle.kilim_link_spec.specs.declared.fault.LeftOutPart.TheVariants as part
 use Rattle.kilim_link_spec.specs.declared.fault.LinkFault.TheVariants as fault
@@ -78,7 +78,7 @@ abbrev pub a_program : Program
 a_program = record {
   classes = a_class ∷ built_in_classes 1 2;
   methods = a_constructor ∷ a_execute ∷ built_in_methods 1;
-  fields = [];
+  fields = built_in_fields 1;
   form = Plain;
 }
 

@@ -14,7 +14,7 @@ use Rattle.kilim_program.specs.declared.ty.Base.TheVariants as base
 use Rattle.kilim_program.specs.declared.ty.Qualifier.TheVariants.{Safe}
 use Rattle.kilim_program.specs.declared.value.Value.TheVariants.{Text}
 use Rattle.kilim_program.specs.Program.{Program}
-use Rattle.kilim_program.specs.BuiltIn.{class_id, method_id, class_type, int_type, built_in_classes, built_in_methods, built_in_classes_in, built_in_methods_in}
+use Rattle.kilim_program.specs.BuiltIn.{class_id, method_id, class_type, int_type, built_in_classes, built_in_methods, built_in_classes_in, built_in_fields, built_in_methods_in}
 use Rattle.kilim_program.specs.Keeps.{Keeps}
 use Rattle.kilim_link_spec.specs.World.{field_id}
 use Rattle.kilim_link_spec.specs.Types.{typed}
@@ -42,7 +42,7 @@ abbrev pub woven_program : Program
 woven_program = record {
   classes = a_class ∷ built_in_classes_in Woven 1 2;
   methods = a_constructor ∷ woven_execute ∷ built_in_methods_in Woven 1;
-  fields = [];
+  fields = built_in_fields 1;
   form = Woven;
 }
 
@@ -62,7 +62,7 @@ p_bytes =
 
 abbrev pub p_instrs : List (ℕ × Instr)
 p_instrs =
-    (0, Aload 0) ∷ (1, Getfield (field_id 0)) ∷ (4, Ldc (Text (codes "s"))) ∷ (6, Pop) ∷ (7, Iload 256) ∷ (11, Iinc 1 (negsuc 0))
+    (0, Aload 0) ∷ (1, Getfield (field_id 1)) ∷ (4, Ldc (Text (codes "s"))) ∷ (6, Pop) ∷ (7, Iload 256) ∷ (11, Iinc 1 (negsuc 0))
     ∷ (14, Tableswitch 46 (pos 1) (36 ∷ 46 ∷ [])) ∷ (36, Newarray base.Int) ∷ (38, Anewarray (typed 0 (base.Class (class_id 1)))) ∷ (41, GotoW 0) ∷ (46, Return)
     ∷ []
 
@@ -100,7 +100,7 @@ m_method = record {
 }
 
 abbrev pub q_class : Class
-q_class = record { name = q_name; superclass = Some (class_id 2); is_abstract = false; message = false; fields = field_id 0 ∷ []; methods = [] }
+q_class = record { name = q_name; superclass = Some (class_id 2); is_abstract = false; message = false; fields = field_id 1 ∷ []; methods = [] }
 
 abbrev pub p_class : Class
 p_class = record { name = p_name; superclass = Some (class_id 0); is_abstract = false; message = false; fields = []; methods = method_id 0 ∷ [] }
@@ -109,7 +109,7 @@ abbrev pub pair_program : Program
 pair_program = record {
   classes = q_class ∷ p_class ∷ built_in_classes 2 1;
   methods = m_method ∷ built_in_methods 2;
-  fields = x_field ∷ [];
+  fields = built_in_fields 2 ++ x_field ∷ [];
   form = Plain;
 }
 

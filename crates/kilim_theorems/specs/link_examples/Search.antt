@@ -1,5 +1,5 @@
 -- Examples of searching: numbers by order, members of the nearest ancestor, and what a class file names, place by place.
-use Rattle.std.specs.Prelude.{◌≡◌, ℕ, List, [], ◌∷◌, ◌++◌, map, take, drop, Option, Some, option_map, codes}
+use Rattle.std.specs.Prelude.{◌≡◌, ℕ, suc, List, [], ◌∷◌, ◌++◌, map, take, drop, Option, Some, option_map, codes}
 use Rattle.kilim_class_attributes.specs.declared.parts.annotation.AnnotationPart.TheVariants.{Annotations, Annotation}
 use Rattle.kilim_class_attributes.specs.declared.parts.frame.Frame.{Frame as FrameForm}
 use Rattle.kilim_class_attributes.specs.declared.parts.frame.Frame.TheVariants as form
@@ -55,7 +55,7 @@ abbrev pub classes_in_order : Type 0
 classes_in_order = of_program (λ p. map (λ c. c.name) (take 3 p.classes)) (in_other_order ∷ calls_a ∷ []) ≡ Some (p_name ∷ codes "A" ∷ object ∷ [])
 
 abbrev pub fields_in_order : Type 0
-fields_in_order = of_program (λ p. map (λ f. f.name) p.fields) (in_other_order ∷ calls_a ∷ []) ≡ Some (codes "y" ∷ codes "x" ∷ [])
+fields_in_order = of_program (λ p. map (λ f. f.name) p.fields) (in_other_order ∷ calls_a ∷ []) ≡ Some (codes "message" ∷ codes "y" ∷ codes "x" ∷ [])
 
 abbrev pub methods_in_order : Type 0
 methods_in_order = of_program (λ p. map (λ m. m.name) (take 4 p.methods)) (in_other_order ∷ calls_a ∷ []) ≡ Some (codes "b" ∷ codes "a" ∷ m_name ∷ codes "<init>" ∷ [])
@@ -83,7 +83,7 @@ uses_both =
     (member 0x0001 (code_attribute (42 ∷ 180 ∷ 0 ∷ 11 ∷ 87 ∷ 42 ∷ 182 ∷ 0 ∷ 14 ∷ 177 ∷ []) ∷ []))
 
 abbrev pub used_code : ℕ → List (ℕ × Instr)
-used_code n = (0, Aload 0) ∷ (1, Getfield (field_id n)) ∷ (4, Pop) ∷ (5, Aload 0) ∷ (6, Invokevirtual (method_id n)) ∷ (9, Return) ∷ []
+used_code n = (0, Aload 0) ∷ (1, Getfield (field_id (suc n))) ∷ (4, Pop) ∷ (5, Aload 0) ∷ (6, Invokevirtual (method_id n)) ∷ (9, Return) ∷ []
 
 -- Q is the second class
 abbrev pub nearest_of_two : Type 0
@@ -306,9 +306,12 @@ code_by_place =
 abbrev pub built_in_members : Form → List (List ℕ × List (List ℕ))
 built_in_members form = map (λ v. (v.name, map (λ m. m.name ++ m.descriptor) v.methods)) (world_of [] form).classes
 
--- the classes of exceptions have a constructor each, and no other method
-abbrev pub with_constructor : List ℕ → List ℕ × List (List ℕ)
-with_constructor name = (name, codes "<init>()V" ∷ [])
+-- the classes of exceptions below `java/lang/Throwable` have two constructors each, and no other method
+abbrev pub constructors : List (List ℕ)
+constructors = codes "<init>()V" ∷ codes "<init>(Ljava/lang/String;)V" ∷ []
+
+abbrev pub with_constructors : List ℕ → List ℕ × List (List ℕ)
+with_constructors name = (name, constructors)
 
 abbrev pub plain_members : Type 0
 plain_members =
@@ -320,17 +323,17 @@ plain_members =
     ∷ (task, codes "<init>()V" ∷ codes "start()V" ∷ codes "execute()V" ∷ [])
     ∷ (codes "kilim/Mailbox", codes "<init>()V" ∷ codes "<init>(I)V" ∷ codes "put(Lkilim/Message;)V" ∷ codes "putw(Lkilim/Message;)V" ∷ codes "get()Lkilim/Message;" ∷ codes "getnb()Lkilim/Message;" ∷ [])
     ∷ (codes "kilim/Sys", codes "print(I)V" ∷ codes "print(J)V" ∷ codes "print(Ljava/lang/String;)V" ∷ codes "yield()V" ∷ codes "argCount()I" ∷ codes "arg(I)I" ∷ codes "take([Lkilim/Message;I)Lkilim/Message;" ∷ [])
-    ∷ with_constructor (codes "java/lang/Throwable")
-    ∷ with_constructor (codes "java/lang/Exception")
-    ∷ with_constructor (codes "java/lang/RuntimeException")
-    ∷ with_constructor (codes "java/lang/ArithmeticException")
-    ∷ with_constructor (codes "java/lang/NullPointerException")
-    ∷ with_constructor (codes "java/lang/NegativeArraySizeException")
-    ∷ with_constructor (codes "java/lang/ClassCastException")
-    ∷ with_constructor (codes "java/lang/ArrayStoreException")
-    ∷ with_constructor (codes "java/lang/IndexOutOfBoundsException")
-    ∷ with_constructor (codes "java/lang/ArrayIndexOutOfBoundsException")
-    ∷ with_constructor (codes "java/lang/StringIndexOutOfBoundsException")
+    ∷ (codes "java/lang/Throwable", constructors ++ codes "getMessage()Ljava/lang/String;" ∷ [])
+    ∷ with_constructors (codes "java/lang/Exception")
+    ∷ with_constructors (codes "java/lang/RuntimeException")
+    ∷ with_constructors (codes "java/lang/ArithmeticException")
+    ∷ with_constructors (codes "java/lang/NullPointerException")
+    ∷ with_constructors (codes "java/lang/NegativeArraySizeException")
+    ∷ with_constructors (codes "java/lang/ClassCastException")
+    ∷ with_constructors (codes "java/lang/ArrayStoreException")
+    ∷ with_constructors (codes "java/lang/IndexOutOfBoundsException")
+    ∷ with_constructors (codes "java/lang/ArrayIndexOutOfBoundsException")
+    ∷ with_constructors (codes "java/lang/StringIndexOutOfBoundsException")
     ∷ []
 
 abbrev pub woven_members : Type 0
@@ -343,17 +346,17 @@ woven_members =
     ∷ (task, codes "<init>()V" ∷ codes "start()V" ∷ codes "execute(Lkilim/Fiber;)V" ∷ [])
     ∷ (codes "kilim/Mailbox", codes "<init>()V" ∷ codes "<init>(I)V" ∷ codes "put(Lkilim/Message;)V" ∷ codes "putw(Lkilim/Message;Lkilim/Fiber;)V" ∷ codes "get(Lkilim/Fiber;)Lkilim/Message;" ∷ codes "getnb()Lkilim/Message;" ∷ [])
     ∷ (codes "kilim/Sys", codes "print(I)V" ∷ codes "print(J)V" ∷ codes "print(Ljava/lang/String;)V" ∷ codes "yield(Lkilim/Fiber;)V" ∷ codes "argCount()I" ∷ codes "arg(I)I" ∷ codes "take([Lkilim/Message;I)Lkilim/Message;" ∷ [])
-    ∷ with_constructor (codes "java/lang/Throwable")
-    ∷ with_constructor (codes "java/lang/Exception")
-    ∷ with_constructor (codes "java/lang/RuntimeException")
-    ∷ with_constructor (codes "java/lang/ArithmeticException")
-    ∷ with_constructor (codes "java/lang/NullPointerException")
-    ∷ with_constructor (codes "java/lang/NegativeArraySizeException")
-    ∷ with_constructor (codes "java/lang/ClassCastException")
-    ∷ with_constructor (codes "java/lang/ArrayStoreException")
-    ∷ with_constructor (codes "java/lang/IndexOutOfBoundsException")
-    ∷ with_constructor (codes "java/lang/ArrayIndexOutOfBoundsException")
-    ∷ with_constructor (codes "java/lang/StringIndexOutOfBoundsException")
+    ∷ (codes "java/lang/Throwable", constructors ++ codes "getMessage()Ljava/lang/String;" ∷ [])
+    ∷ with_constructors (codes "java/lang/Exception")
+    ∷ with_constructors (codes "java/lang/RuntimeException")
+    ∷ with_constructors (codes "java/lang/ArithmeticException")
+    ∷ with_constructors (codes "java/lang/NullPointerException")
+    ∷ with_constructors (codes "java/lang/NegativeArraySizeException")
+    ∷ with_constructors (codes "java/lang/ClassCastException")
+    ∷ with_constructors (codes "java/lang/ArrayStoreException")
+    ∷ with_constructors (codes "java/lang/IndexOutOfBoundsException")
+    ∷ with_constructors (codes "java/lang/ArrayIndexOutOfBoundsException")
+    ∷ with_constructors (codes "java/lang/StringIndexOutOfBoundsException")
     ∷ (
       codes "kilim/Fiber",
       codes "pc()I" ∷ codes "down()Lkilim/Fiber;" ∷ codes "up()I" ∷ codes "saveI(ILkilim/Fiber;)V" ∷ codes "saveJ(JLkilim/Fiber;)V" ∷ codes "saveA(Ljava/lang/Object;Lkilim/Fiber;)V"

@@ -9,7 +9,7 @@ pub fn courses_begin()
     ensures { CoursesBegin }
 {}
 
-/// A law, and no work: where no method has exception handlers, the thread of a course goes on as the thread of a course, until it is over.
+/// A law, and no work: the thread of a course goes on as the thread of a course, until it is over.
 pub fn courses_go_on()
     ensures { CoursesGoOn }
 {}

@@ -161,12 +161,24 @@ abbrev pub UpIs : ℕ → Option ClassId → Type 0
 UpIs first None = Unit {0}
 UpIs first (Some up) = (up.0 ≡ first) ⊎ ((k : ℕ) × (up.0 ≡ first + k) × (is_late k ≡ true))
 
+-- a class of values has no fields
 abbrev pub IsPlain : ℕ → Class → Type 0
-IsPlain first class = (class.fields ≡ []) × UpIs first class.superclass
+IsPlain first class = (is_value_name class.name ≡ true → class.fields ≡ []) × UpIs first class.superclass
 
 pub built_plain : (form : Form) (first method : ℕ) → AllByRecursion (IsPlain first) (built_in_classes_in form first method)
-built_plain Plain first method = ((refl, tt), ((refl, inl refl), ((refl, inl refl), ((refl, inl refl), ((refl, inl refl), ((refl, inl refl), ((refl, inl refl), ((refl, inl refl), ((refl, inr (7, refl, refl)), ((refl, inr (8, refl, refl)), ((refl, inr (9, refl, refl)), ((refl, inr (9, refl, refl)), ((refl, inr (9, refl, refl)), ((refl, inr (9, refl, refl)), ((refl, inr (9, refl, refl)), ((refl, inr (9, refl, refl)), ((refl, inr (15, refl, refl)), ((refl, inr (15, refl, refl)), tt))))))))))))))))))
-built_plain Woven first method = ((refl, tt), ((refl, inl refl), ((refl, inl refl), ((refl, inl refl), ((refl, inl refl), ((refl, inl refl), ((refl, inl refl), ((refl, inl refl), ((refl, inr (7, refl, refl)), ((refl, inr (8, refl, refl)), ((refl, inr (9, refl, refl)), ((refl, inr (9, refl, refl)), ((refl, inr (9, refl, refl)), ((refl, inr (9, refl, refl)), ((refl, inr (9, refl, refl)), ((refl, inr (9, refl, refl)), ((refl, inr (15, refl, refl)), ((refl, inr (15, refl, refl)), ((refl, inl refl), tt)))))))))))))))))))
+built_plain Plain first method = (((λ v. refl), tt), (((λ v. refl), inl refl), (((λ v. refl), inl refl), (((λ v. refl), inl refl), (((λ v. refl), inl refl), (((λ v. refl), inl refl), (((λ v. refl), inl refl), (((λ v. absurd (let z : false ≡ true = v in cc)), inl refl), (((λ v. refl), inr (7, refl, refl)), (((λ v. refl), inr (8, refl, refl)), (((λ v. refl), inr (9, refl, refl)), (((λ v. refl), inr (9, refl, refl)), (((λ v. refl), inr (9, refl, refl)), (((λ v. refl), inr (9, refl, refl)), (((λ v. refl), inr (9, refl, refl)), (((λ v. refl), inr (9, refl, refl)), (((λ v. refl), inr (15, refl, refl)), (((λ v. refl), inr (15, refl, refl)), tt))))))))))))))))))
+built_plain Woven first method = (((λ v. refl), tt), (((λ v. refl), inl refl), (((λ v. refl), inl refl), (((λ v. refl), inl refl), (((λ v. refl), inl refl), (((λ v. refl), inl refl), (((λ v. refl), inl refl), (((λ v. absurd (let z : false ≡ true = v in cc)), inl refl), (((λ v. refl), inr (7, refl, refl)), (((λ v. refl), inr (8, refl, refl)), (((λ v. refl), inr (9, refl, refl)), (((λ v. refl), inr (9, refl, refl)), (((λ v. refl), inr (9, refl, refl)), (((λ v. refl), inr (9, refl, refl)), (((λ v. refl), inr (9, refl, refl)), (((λ v. refl), inr (9, refl, refl)), (((λ v. refl), inr (15, refl, refl)), (((λ v. refl), inr (15, refl, refl)), (((λ v. refl), inl refl), tt)))))))))))))))))))
+
+-- the first of them
+record Highest (form : Form) (first method : ℕ) : Type 0 where
+  class : Class
+  at : slice_get (built_in_classes_in form first method) 0 ≡ Some class
+  bare : class.fields ≡ []
+  highest : class.superclass ≡ None
+
+built_object : (form : Form) (first method : ℕ) → Highest form first method
+built_object Plain first method = record { class = _; at = refl; bare = refl; highest = refl }
+built_object Woven first method = record { class = _; at = refl; bare = refl; highest = refl }
 
 -- a class of values is directly below the first of them
 abbrev pub UpIsFirst : ℕ → Option ClassId → Type 0
@@ -314,24 +326,34 @@ module _ (p : Program) (keeps : Keeps p) where
 
   -- ---- it has no fields, nor has `java/lang/Object`
 
-  no_own_fields : (n : ℕ) (c : ClassId) → length own ≤ c.0 → list_all (has_none p) (line_up_to p n c) ≡ true
-  no_own_fields zero c after = refl
-  no_own_fields (suc n) c after = by (class_at p c) refl (λ d later. no_own_fields n d later)
-    where
-      up : (o : Option ClassId) → UpIs (length own) o → ((d : ClassId) → length own ≤ d.0 → list_all (has_none p) (line_up_to p n d) ≡ true) → list_all (has_none p) (elim o [ None ↦ [] | Some up ↦ line_up_to p n up ]) ≡ true
-      up None is again = refl
-      up (Some d) (inl is) again = again d (omega (arith, is))
-      up (Some d) (inr is) again = let number = is.1 in again d (omega (arith, number))
+  no_object_fields : (n : ℕ) → list_all (has_none p) (line_up_to p n (class_id (length own))) ≡ true
+  no_object_fields zero = refl
+  no_object_fields (suc n) =
+      let top = built_object p.form (length own) (length keeps.built_in.own_methods) in
+      let number : length own ≡ length own + 0 = omega arith in
+      let there : class_at p (class_id (length own)) ≡ Some top.class = ap (λ (cs : List Class). slice_get cs (length own)) keeps.built_in.classes ∙ (get_right own built (length own) 0 number ∙ top.at) in
+      subst (λ (o : Option Class). (is_empty (elim o [ None ↦ [] | Some class ↦ class.fields ]) && list_all (has_none p) (elim (o >>= λ (class : Class). class.superclass) [ None ↦ [] | Some up ↦ line_up_to p n up ])) ≡ true) (sym there)
+      (and_from (is_empty top.class.fields) _ (ap is_empty top.bare) (ap (λ (o : Option ClassId). list_all (has_none p) (elim o [ None ↦ [] | Some up ↦ line_up_to p n up ])) top.highest))
 
-      by : (o : Option Class) → class_at p c ≡ o → ((d : ClassId) → length own ≤ d.0 → list_all (has_none p) (line_up_to p n d) ≡ true) → list_all (has_none p) (line_up_to p (suc n) c) ≡ true
-      by None there again = subst (λ (o : Option Class). (is_empty (elim o [ None ↦ [] | Some class ↦ class.fields ]) && list_all (has_none p) (elim (o >>= λ (class : Class). class.superclass) [ None ↦ [] | Some up ↦ line_up_to p n up ])) ≡ true) (sym there) refl
-      by (Some class) there again =
+  no_own_fields : (n : ℕ) (c : ClassId) → length own ≤ c.0 → is_value_name (class_name p c) ≡ true → list_all (has_none p) (line_up_to p n c) ≡ true
+  no_own_fields zero c after value = refl
+  no_own_fields (suc n) c after value = by (class_at p c) refl
+    where
+      up : (o : Option ClassId) → UpIsFirst (length own) o → list_all (has_none p) (elim o [ None ↦ [] | Some up ↦ line_up_to p n up ]) ≡ true
+      up None is = refl
+      up (Some d) is = subst (λ (k : ℕ). list_all (has_none p) (line_up_to p n (class_id k)) ≡ true) (sym is) (no_object_fields n)
+
+      by : (o : Option Class) → class_at p c ≡ o → list_all (has_none p) (line_up_to p (suc n) c) ≡ true
+      by None there = subst (λ (o : Option Class). (is_empty (elim o [ None ↦ [] | Some class ↦ class.fields ]) && list_all (has_none p) (elim (o >>= λ (class : Class). class.superclass) [ None ↦ [] | Some up ↦ line_up_to p n up ])) ≡ true) (sym there) refl
+      by (Some class) there =
           let k : ℕ = c.0 - length own in
           let number : c.0 ≡ length own + k = omega (arith, after) in
           let at : slice_get built k ≡ Some class = sym (get_right own built c.0 k number) ∙ (ap (λ (cs : List Class). slice_get cs c.0) (sym keeps.built_in.classes) ∙ there) in
+          let named : is_value_name class.name ≡ true = ap (λ (o : Option Class). is_value_name (elim o [ None ↦ [] | Some class ↦ class.name ])) (sym there) ∙ value in
           let plain = all_of_at (IsPlain (length own)) built (built_plain p.form (length own) (length keeps.built_in.own_methods)) k class at in
+          let top = all_of_at (IsAtTop (length own)) built (built_at_top p.form (length own) (length keeps.built_in.own_methods)) k class at in
           subst (λ (o : Option Class). (is_empty (elim o [ None ↦ [] | Some class ↦ class.fields ]) && list_all (has_none p) (elim (o >>= λ (class : Class). class.superclass) [ None ↦ [] | Some up ↦ line_up_to p n up ])) ≡ true) (sym there)
-          (and_from (is_empty class.fields) _ (ap is_empty plain.0) (up class.superclass plain.1 again))
+          (and_from (is_empty class.fields) _ (ap is_empty (plain.0 named)) (up class.superclass (top named)))
 
   -- a class of values stands behind those of the files
   pub value_behind : (name : List ℕ) (c : ClassId) → is_value_name name ≡ true → class_named p name ≡ Some c → length own ≤ c.0
@@ -344,4 +366,4 @@ module _ (p : Program) (keeps : Keeps p) where
       omega (arith, number, after)
 
   pub no_fields : (name : List ℕ) (c : ClassId) → is_value_name name ≡ true → class_named p name ≡ Some c → object_fields p c ≡ []
-  no_fields name c value there = ap (filter (is_instance_field p)) (none_of_all p (line_of p c) (no_own_fields (length p.classes) c (value_behind name c value there)))
+  no_fields name c value there = ap (filter (is_instance_field p)) (none_of_all p (line_of p c) (no_own_fields (length p.classes) c (value_behind name c value there) (ap is_value_name (text_is (class_name p c) name (found_name name c there)) ∙ value)))

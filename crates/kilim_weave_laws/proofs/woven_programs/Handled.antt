@@ -1,10 +1,11 @@
 -- Exception tables in the woven program: a method that can't pause keeps the rules of handlers, and one that can has no table.
-use Rattle.std.proofs.Common.{◌≡◌, ℕ, true, List, [], ◌∷◌, Option, Some, None, refl, sym, ap, subst, ◌∙◌}
+use Rattle.std.proofs.Common.{◌≡◌, ℕ, Bool, true, not, ◌||◌, List, [], ◌∷◌, Option, Some, None, refl, sym, ap, subst, ◌∙◌}
 use Rattle.kilim_program.specs.declared.class.Handler.{Handler}
 use Rattle.kilim_program.specs.declared.class.Method.{Method}
 use Rattle.kilim_program.specs.declared.instr.Instr.{Instr}
 use Rattle.kilim_program.specs.declared.names.ClassId.{ClassId}
 use Rattle.kilim_program.specs.declared.verified.VType.{VType}
+use Rattle.kilim_program.specs.Handlers.{pauses_bare}
 use Rattle.kilim_program.specs.Lengths.{ends_path}
 use Rattle.kilim_program.specs.Names.{class_at, is_empty}
 use Rattle.kilim_program.specs.Program.{Program}
@@ -18,7 +19,8 @@ use Rattle.kilim_weave_laws.proofs.woven_types.Unchanged.{flows_same, step_same}
 use Rattle.kilim_weave_laws.proofs.woven_programs.Frames.{arrives}
 
 pub none_pauses_with_table : NonePausesWithTable
-none_pauses_with_table p keeps id m at pausable = all_at (λ (n : Method). is_empty n.handlers) p.methods id.0 m keeps.handlers at
+none_pauses_with_table p keeps id m at pausable =
+    ap (λ (z : Bool). not z || is_empty m.handlers) (sym pausable) ∙ all_at pauses_bare p.methods id.0 m keeps.paused at
 
 module _ (P W : Program) (m : Method) (assigns : (a b : VType) → assignable P a b ≡ true → assignable W a b ≡ true) (above : superclass_at (class_at W m.owner) ≡ superclass_at (class_at P m.owner)) (progs : Programs P W m m)
     (throwable : (c : ClassId) → is_throwable P c ≡ true → is_throwable W c ≡ true) where

@@ -192,7 +192,7 @@ module _ (P W : Program) (counted : List (List Bool)) (keeps : Keeps P) (plainly
   made = length keeps.built_in.own_methods
 
   abbrev pub fiber_parts : Class
-  fiber_parts = built_in_class (codes "kilim/Fiber") (Some (class_id (first_class P))) false (methods_from (first_method P) (31 ∷ 32 ∷ 33 ∷ 34 ∷ 35 ∷ 36 ∷ 37 ∷ 38 ∷ 39 ∷ 40 ∷ 41 ∷ []))
+  fiber_parts = built_in_class (codes "kilim/Fiber") (Some (class_id (first_class P))) false (methods_from (first_method P) (43 ∷ 44 ∷ 45 ∷ 46 ∷ 47 ∷ 48 ∷ 49 ∷ 50 ∷ 51 ∷ 52 ∷ 53 ∷ []))
 
   abbrev pub Grown : Type 0
   Grown = W.classes ≡ P.classes ++ fiber_parts ∷ []

@@ -1,5 +1,5 @@
 use Rattle.kilim_fiber_body.specs.Body.{behind_at}
-use Rattle.kilim_fiber_body.proofs.Asking.{come_by, wait_known, wait_same}
+use Rattle.kilim_fiber_body.proofs.Asking.{name_by, wait_known, wait_same}
 use Rattle.kilim_fiber_body.proofs.asks.ask_of_three.Goals as goal
 
 pub put_or_wait-requires-clause-can : goal.put_or_wait-requires-clause-can
@@ -7,4 +7,5 @@ put_or_wait-requires-clause-can c = wait_known c.args.plain.now c.args.program.n
 
 pub returns-clause-comes : goal.returns-clause-comes
 returns-clause-comes c = λ set is-program is-limits.
-    come_by 0 c.put_or_wait.new.body c.put_or_wait.result _ _ (wait_same set (behind_at 0 c.args.body.now) c.args.native c.args.first.now c.args.second.now c.args.third.now c.in-PutWait.is c.in-Fiber.is) (c.put_or_wait.ensures.comes set is-program is-limits)
+    name_by c.args.body.now.heap c.put_or_wait.new.body c.put_or_wait.result _ _ (c.put_or_wait.ensures.comes set is-program is-limits)
+    (λ x. wait_same set c.args.program.now (behind_at x c.args.body.now) c.args.native c.args.first.now c.args.second.now c.args.third.now c.in-PutWait.is c.in-Fiber.is)

@@ -6,7 +6,7 @@ use Rattle.kilim_fiber_body.specs.Legs.{HasGone}
 use Rattle.kilim_fiber_body.specs.Reach.{AtFirst}
 use Rattle.kilim_fiber_body.specs.Steps.{setting_of}
 use Rattle.kilim_fiber_body.specs.declared.body.Came.TheVariants as came
-use Rattle.kilim_fiber_body.proofs.Reaching.{came_next, came_ok, rests_made, rests_next}
+use Rattle.kilim_fiber_body.proofs.Reaching.{asked_ok, came_next, came_ok, rests_made, rests_next}
 use Rattle.kilim_fiber_body.proofs.legs.leg.Goals as goal
 
 -- ---- where it rests
@@ -53,7 +53,7 @@ ask-requires-clause-can c =
 pub returns-in-Asks-clause-reached : goal.returns-in-Asks-clause-reached
 returns-in-Asks-clause-reached c =
     let set = setting_of c.args.code.now c.args.limits.now c.args.main in
-    came_ok (setting_of c.args.code.now c.args.limits.now c.args.main) c.args.code.now.program c.args.code.now.counted c.args.task (standing_at 0 c.args.body.now) _ c.ask.new.body
+    asked_ok (setting_of c.args.code.now c.args.limits.now c.args.main) c.args.code.now.program c.args.code.now.counted c.args.task (standing_at 0 c.args.body.now) c.go.new.body.heap _ c.ask.new.body
     (subst (λ (halted : Halted). HasGone (setting_of c.args.code.now c.args.limits.now c.args.main) c.args.code.now.program c.args.code.now.counted c.args.task (standing_at 0 c.args.body.now) c.go.new.body c.in-Ok.gone.0 halted) c.in-Asks.is c.in-Ok.ensures.gone).comes c.ask.result (c.ask.ensures.comes set refl refl)
 
 pub returns-in-Returned-clause-reached : goal.returns-in-Returned-clause-reached

@@ -30,11 +30,11 @@ use Rattle.kilim_type_sound.proofs.Basics.{takes_inverse}
 use Rattle.kilim_type_sound.proofs.Grounds.{facts_hold}
 use Rattle.kilim_type_sound.proofs.TextClass.{alone}
 use Rattle.kilim_run_state.specs.declared.value.Object.{Object as HeapObject}
-use Rattle.kilim_run_machine.specs.Does.{above_of, at_unit, calls_method, calls_on, calls_text, chosen, does, special, superclass_of, takes_element, text_answers, unit_at}
+use Rattle.kilim_run_machine.specs.Does.{above_of, at_unit, calls_method, calls_on, calls_text, chosen, does, gives_message, keeps_message, special, superclass_of, takes_element, text_answers, unit_at}
 use Rattle.kilim_run_machine.specs.Effect.{Asks, Calls, Effect, Ends, Goes, Makes, Opens, Raises, Throws, Returns, Stuck, as_class, as_int, as_receiver, on_value, on_values, text_of, when, with_some}
 use Rattle.kilim_program.specs.Members.{named_type}
 use Rattle.kilim_run_state.specs.Machine.{Objects}
-use Rattle.kilim_run_machine.specs.Natives.{is_built_in_constructor, is_handed_out, is_take, is_text_method}
+use Rattle.kilim_run_machine.specs.Natives.{is_built_in_constructor, is_get_message, is_handed_out, is_message_constructor, is_of_message, is_take, is_text_method}
 use Rattle.kilim_type_spec.specs.Step.{Is, Types, arguments, class_vtype, may_name, needs, result_types, row, special_by, special_fits, special_row, special_rules, static_row, static_rules, type_step, virtual_row, virtual_rules, by_row}
 use Rattle.kilim_type_spec.specs.Typed.{has_code}
 use Rattle.kilim_fiber_spec.specs.Rows.{Receives, below_arguments, class_if}
@@ -108,10 +108,12 @@ abbrev pub HasFirst : List Value → Type 0
 HasFirst [] = ⊥
 HasFirst (v ∷ vs) = NotNull v
 
--- no constructor, no method of strings, and not `kilim/Sys.take`; a receiver that isn't null; arguments that are there
+-- No constructor, no method of strings, not `kilim/Sys.take`, and not of the message of an exception; a receiver that isn't null; arguments that
+-- are there.
 pub record AsksWell (p : Program) (h : Objects) (m : Method) (args : List Value) : Type 0 where
   pub plain : is_built_in_constructor m ≡ false
   pub other : is_text_method p m ≡ false
+  pub no_message : is_of_message m ≡ false
   pub taken : m.is_static ≡ true → is_take p m ≡ false
   pub first : m.is_static ≡ false → HasFirst args
   pub there : AreThere h args
@@ -223,6 +225,17 @@ module _ (p : Program) (h : Objects) where
   k_take : (to : ℕ) (l s : List Value) → Asked (takes_element to l s h)
   k_take to l s = asked_quiet (takes_element to l s h) (simp (q_value, q_int, q_object, q_index))
 
+  k_keeps : (args : List Value) (to : ℕ) (l rest : List Value) → Asked (keeps_message args to l rest h)
+  k_keeps [] to l rest = tt
+  k_keeps (v ∷ []) to l rest = tt
+  k_keeps (v ∷ w ∷ []) to l rest = asked_quiet (keeps_message (v ∷ w ∷ []) to l rest h) (simp (q_object, q_some))
+  k_keeps (v ∷ w ∷ x ∷ vs) to l rest = tt
+
+  k_gives : (args : List Value) (to : ℕ) (l rest : List Value) → Asked (gives_message args to l rest h)
+  k_gives [] to l rest = tt
+  k_gives (v ∷ []) to l rest = asked_quiet (gives_message (v ∷ []) to l rest h) (simp (q_object, q_some))
+  k_gives (v ∷ w ∷ vs) to l rest = tt
+
 module _ (p : Program) (keeps : Keeps p) (form : p.form ≡ Plain) (of : Classes) (h : Objects) (heap : HeapFits p of h) (own : Method) (to : ℕ) (l s : List Value) (here : AreThere h s) where
   facts : Facts p
   facts = facts_hold p keeps
@@ -238,12 +251,14 @@ module _ (p : Program) (keeps : Keeps p) (form : p.form ≡ Plain) (of : Classes
       none false = refl
 
   -- a method that is found for a named one
-  k_method : (id : MethodId) (m : Method) (args rest : List Value) → method_at p id ≡ Some m → (m.built_in ≡ true → AsksWell p h m args) → Asked p h (calls_method (method_at p id) id args to l rest h)
-  k_method id m args rest there well = subst (λ (o : Option Method). Asked p h (calls_method o id args to l rest h)) (sym there) (by m.built_in refl)
+  k_method : (id : MethodId) (m : Method) (args rest : List Value) → method_at p id ≡ Some m → (m.built_in ≡ true → is_of_message m ≡ false → AsksWell p h m args) → Asked p h (calls_method (method_at p id) id args to l rest h)
+  k_method id m args rest there well = subst (λ (o : Option Method). Asked p h (calls_method o id args to l rest h)) (sym there) (by m.built_in (is_message_constructor m) (is_get_message m) refl refl refl)
     where
-      by : (z : Bool) → m.built_in ≡ z → Asked p h (cond z (Asks id args to l rest h) (Calls id args to l rest h))
-      by true e = (m, there, well e)
-      by false e = tt
+      by : (z keeps gives : Bool) → m.built_in ≡ z → is_message_constructor m ≡ keeps → is_get_message m ≡ gives → Asked p h (cond z (cond keeps (keeps_message args to l rest h) (cond gives (gives_message args to l rest h) (Asks id args to l rest h))) (Calls id args to l rest h))
+      by true true gives e k g = k_keeps p h args to l rest
+      by true false true e k g = k_gives p h args to l rest
+      by true false false e k g = (m, there, well e (ap (λ (z : Bool). z || is_get_message m) k ∙ g))
+      by false keeps gives e k g = tt
 
   -- ---- on an object
 
@@ -252,8 +267,9 @@ module _ (p : Program) (keeps : Keeps p) (form : p.form ≡ Plain) (of : Classes
         Asked p h (calls_on p named id (reverse vs) to l rest h v (Some ty))
     chosen_asks other v vs rest nn args ty has fits =
         let sel = facts.selects id named there instance plain ty has fits in
-        k_method (chosen p named id ty) sel.0.method (v ∷ reverse vs) rest sel.0.there (λ own. record {
+        k_method (chosen p named id ty) sel.0.method (v ∷ reverse vs) rest sel.0.there (λ own message. record {
           plain = not_plain sel.0.method sel.0.plain;
+          no_message = message;
           other = is_other (is_text_method p sel.0.method) (λ e. text_alone p keeps form id named there other plain sel.0.method.owner (text_of_owner sel.0.method e) (subst (λ (c : Ty). fits_type p c (class_type named.owner.0) ≡ true) (alone p keeps sel.0.method.owner (text_of_owner sel.0.method e) ty sel.1) fits));
           taken = λ t. absurd (false≢true (sym sel.0.instance ∙ t));
           first = λ f. nn;
@@ -306,9 +322,10 @@ module _ (p : Program) (keeps : Keeps p) (form : p.form ≡ Plain) (of : Classes
             (on_values (length named.params) s (λ args below. on_value below (λ v rest. as_receiver v (λ receiver. calls_method (method_at p (special p own named id)) (special p own named id) (receiver ∷ reverse args) to l rest h)))))
         by true e = k_value p h s _ (λ v rest is. k_receiver p h v _ (λ nn. tt))
         by false e = subst (λ (q : MethodId). Asked p h (on_values (length named.params) s (λ args below. on_value below (λ v rest. as_receiver v (λ receiver. calls_method (method_at p q) q (receiver ∷ reverse args) to l rest h))))) (sym itself)
-            (k_values p h (length named.params) s _ here (λ vs r tv tr b. k_value p h r _ (λ v rest is. k_receiver p h v _ (λ nn. k_method id named (v ∷ reverse vs) rest there (λ built.
-            let other = constructs_other p keeps form id named there built e con in
+            (k_values p h (length named.params) s _ here (λ vs r tv tr b. k_value p h r _ (λ v rest is. k_receiver p h v _ (λ nn. k_method id named (v ∷ reverse vs) rest there (λ built message.
+            let other = constructs_other p keeps form id named there built e message con in
             record {
+              no_message = message;
               plain = e;
               other = other.0;
               taken = λ t. absurd (false≢true (sym other.1 ∙ t));
@@ -323,7 +340,8 @@ module _ (p : Program) (keeps : Keeps p) (form : p.form ≡ Plain) (of : Classes
         (on_values (length method.params) s (λ args below. on_value below (λ v rest. as_receiver v (λ receiver. calls_method (method_at p (special p own method id)) (special p own method id) (receiver ∷ reverse args) to l rest h))))))) (sym there)
         (subst (λ (z : Bool). Asked p h (cond z (on_value s (λ v rest. as_receiver v (λ receiver. Goes to l rest h)))
         (on_values (length named.params) s (λ args below. on_value below (λ v rest. as_receiver v (λ receiver. calls_method (method_at p (special p own named id)) (special p own named id) (receiver ∷ reverse args) to l rest h)))))) (sym (not_plain named plain))
-        (k_values p h (length named.params) s _ here (λ vs r tv tr b. k_value p h r _ (λ v rest is. k_receiver p h v _ (λ nn. k_method (special p own named id) sel.0.method (v ∷ reverse vs) rest sel.0.there (λ built. record {
+        (k_values p h (length named.params) s _ here (λ vs r tv tr b. k_value p h r _ (λ v rest is. k_receiver p h v _ (λ nn. k_method (special p own named id) sel.0.method (v ∷ reverse vs) rest sel.0.there (λ built message. record {
+          no_message = message;
           plain = not_plain sel.0.method sel.0.plain;
           other = is_other (is_text_method p sel.0.method) (λ e. of_text (text_of_owner sel.0.method e));
           taken = λ t. absurd (false≢true (sym sel.0.instance ∙ t));
@@ -356,15 +374,17 @@ module _ (p : Program) (keeps : Keeps p) (form : p.form ≡ Plain) (of : Classes
       by : (z : Bool) → is_handed_out p named ≡ z → Asked p h (cond z (on_values (length named.params) s (λ args rest. Asks id (reverse args) to l rest h)) (cond named.built_in (takes_element to l s h) (on_values (length named.params) s (λ args rest. Calls id (reverse args) to l rest h))))
       by false e = own_or named.built_in
       by true e =
-          let none = or_parts (is_built_in_constructor named) (is_text_method p named || is_take p named) (not-true _ (and_parts named.built_in (not (is_built_in_constructor named || (is_text_method p named || is_take p named))) e).1) in
-          let two = or_parts (is_text_method p named) (is_take p named) none.1 in
+          let none = or_parts (is_built_in_constructor named) (is_text_method p named || (is_take p named || is_of_message named)) (not-true _ (and_parts named.built_in (not (is_built_in_constructor named || (is_text_method p named || (is_take p named || is_of_message named)))) e).1) in
+          let two = or_parts (is_text_method p named) (is_take p named || is_of_message named) none.1 in
+          let three = or_parts (is_take p named) (is_of_message named) two.1 in
           k_values p h (length named.params) s _ here (λ vs r tv tr b. (
             named,
             there,
             record {
               plain = none.0;
               other = two.0;
-              taken = λ t. two.1;
+              taken = λ t. three.0;
+              no_message = three.1;
               first = λ f. absurd (false≢true (sym f ∙ static));
               there = there_reverse h vs tv;
             },

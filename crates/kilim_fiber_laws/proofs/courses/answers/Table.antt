@@ -11,11 +11,11 @@ use Rattle.kilim_program.specs.declared.value.Value.{Value}
 use Rattle.kilim_program.specs.declared.value.Value.TheVariants.{Box, Fiber, Int, Long, Null, Ref, Text}
 use Rattle.kilim_program.specs.declared.verified.VType.{VType}
 use Rattle.kilim_program.specs.declared.verified.VType.TheVariants as vtype
-use Rattle.kilim_program.specs.BuiltIn.{built_in_constructor, built_in_methods_in, class_id, class_type, exception_numbers}
+use Rattle.kilim_program.specs.BuiltIn.{built_in_constructor, built_in_methods_in, class_id, class_type, get_message, message_constructor}
 use Rattle.kilim_program.specs.Keeps.{Keeps}
 use Rattle.kilim_program.specs.Names.{class_name, method_at}
 use Rattle.kilim_program.specs.Program.{Program}
-use Rattle.kilim_program.proofs.BuiltIns.{constructors_too}
+use Rattle.kilim_program.proofs.BuiltIns.{exceptions_too}
 use Rattle.kilim_isolation_laws.proofs.typed_threads.fine.Natives.{built_in_one, first, task_name}
 use Rattle.kilim_type_sound.specs.Fits.{AreThere, Classes, HeapFits, has_type, have_types}
 use Rattle.kilim_type_sound.specs.Sound.{native_types}
@@ -138,6 +138,10 @@ module _ (p : Program) (keeps : Keeps p) (form : p.form ≡ Plain) (of : Classes
   unfolding AnswersAs
   of_text m is args a e = absurd (false≢true (sym a.other ∙ is))
 
+  of_message : (m : Method) → Rattle.kilim_run_machine.specs.Natives.is_of_message m ≡ true → AnswersAs p of h m
+  unfolding AnswersAs
+  of_message m is args a e = absurd (false≢true (sym a.no_message ∙ is))
+
   takes : (m : Method) → m.is_static ≡ true → Rattle.kilim_run_machine.specs.Natives.is_take p m ≡ true → AnswersAs p of h m
   unfolding AnswersAs
   takes m static is args a e = absurd (false≢true (sym (a.taken static) ∙ is))
@@ -146,7 +150,7 @@ module _ (p : Program) (keeps : Keeps p) (form : p.form ≡ Plain) (of : Classes
   text_named = ap (λ (x : List ℕ). bytes_eq x (codes "java/lang/String")) (string_name p keeps form)
 
   all_answer : AllByRecursion (AnswersAs p of h) (built_in_methods_in Plain (length keeps.built_in.own_classes))
-  all_answer = (plainly _ refl, (of_text _ text_named, (of_text _ text_named, (of_text _ text_named, (plainly _ refl, (of_task _ native.Start refl (λ n. tt) (codes "kilim/Task") (task_name p keeps form) refl refl, (of_task _ native.Execute refl (λ n. tt) (codes "kilim/Task") (task_name p keeps form) refl refl, (plainly _ refl, (bounds _ refl (codes "kilim/Mailbox") (mailbox_name p keeps form) refl refl, (puts _ refl (codes "kilim/Mailbox") (mailbox_name p keeps form) refl refl, (puts_or_waits _ refl (codes "kilim/Mailbox") (mailbox_name p keeps form) refl refl, (of_box _ native.Get refl (λ b. tt) (codes "kilim/Mailbox") (mailbox_name p keeps form) refl refl, (of_box _ native.Getnb refl (λ b. tt) (codes "kilim/Mailbox") (mailbox_name p keeps form) refl refl, (prints _ vtype.Int (codes "kilim/Sys") (sys_name p keeps form) refl refl (λ m v t e. let r = int_is p m of v e in (token.Int r.0, ap printed r.1)), (prints _ vtype.Long (codes "kilim/Sys") (sys_name p keeps form) refl refl (λ m v t e. let r = long_is p m of v e in (token.Long r.0, ap printed r.1)), (prints _ (vtype.Object (class_type (first p keeps form + 1))) (codes "kilim/Sys") (sys_name p keeps form) refl refl (λ m v t e. text_shown p keeps form m of h heap v t.0 e), (alone _ native.Yield tt (codes "kilim/Sys") (sys_name p keeps form) refl refl, (alone _ native.ArgCount tt (codes "kilim/Sys") (sys_name p keeps form) refl refl, (gives_arg _ (codes "kilim/Sys") (sys_name p keeps form) refl refl, (takes _ refl (ap (λ (x : List ℕ). bytes_eq x (codes "kilim/Sys") && true) (sys_name p keeps form)), constructors_too (AnswersAs p of h) (length keeps.built_in.own_classes) exception_numbers [] (λ c. plainly (built_in_constructor c) refl) tt))))))))))))))))))))
+  all_answer = (plainly _ refl, (of_text _ text_named, (of_text _ text_named, (of_text _ text_named, (plainly _ refl, (of_task _ native.Start refl (λ n. tt) (codes "kilim/Task") (task_name p keeps form) refl refl, (of_task _ native.Execute refl (λ n. tt) (codes "kilim/Task") (task_name p keeps form) refl refl, (plainly _ refl, (bounds _ refl (codes "kilim/Mailbox") (mailbox_name p keeps form) refl refl, (puts _ refl (codes "kilim/Mailbox") (mailbox_name p keeps form) refl refl, (puts_or_waits _ refl (codes "kilim/Mailbox") (mailbox_name p keeps form) refl refl, (of_box _ native.Get refl (λ b. tt) (codes "kilim/Mailbox") (mailbox_name p keeps form) refl refl, (of_box _ native.Getnb refl (λ b. tt) (codes "kilim/Mailbox") (mailbox_name p keeps form) refl refl, (prints _ vtype.Int (codes "kilim/Sys") (sys_name p keeps form) refl refl (λ m v t e. let r = int_is p m of v e in (token.Int r.0, ap printed r.1)), (prints _ vtype.Long (codes "kilim/Sys") (sys_name p keeps form) refl refl (λ m v t e. let r = long_is p m of v e in (token.Long r.0, ap printed r.1)), (prints _ (vtype.Object (class_type (first p keeps form + 1))) (codes "kilim/Sys") (sys_name p keeps form) refl refl (λ m v t e. text_shown p keeps form m of h heap v t.0 e), (alone _ native.Yield tt (codes "kilim/Sys") (sys_name p keeps form) refl refl, (alone _ native.ArgCount tt (codes "kilim/Sys") (sys_name p keeps form) refl refl, (gives_arg _ (codes "kilim/Sys") (sys_name p keeps form) refl refl, (takes _ refl (ap (λ (x : List ℕ). bytes_eq x (codes "kilim/Sys") && true) (sys_name p keeps form)), exceptions_too (AnswersAs p of h) (length keeps.built_in.own_classes) [] (λ c. plainly (built_in_constructor c) refl) (λ c. of_message (message_constructor (length keeps.built_in.own_classes) c) refl) (of_message (get_message (length keeps.built_in.own_classes)) refl) tt))))))))))))))))))))
 
   pub answers : (id : MethodId) (m : Method) → method_at p id ≡ Some m → m.built_in ≡ true → (args : List Value) → AsksWell p h m args → have_types p m of (native_types m) args ≡ true → (k : Native) × (native_method p m ≡ Some k) × TakesSuch k args
   unfolding AnswersAs

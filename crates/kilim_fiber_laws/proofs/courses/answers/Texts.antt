@@ -20,13 +20,13 @@ use Rattle.kilim_program.specs.declared.ty.Ty.{Ty}
 use Rattle.kilim_program.specs.declared.value.Value.{Value}
 use Rattle.kilim_program.specs.declared.value.Value.TheVariants.{Box, Fiber, Int, Long, Null, Ref, Text}
 use Rattle.kilim_program.specs.declared.verified.VType.TheVariants.{Object}
-use Rattle.kilim_program.specs.BuiltIn.{built_in_classes_in, built_in_methods_in, class_id, class_type, exception_numbers}
+use Rattle.kilim_program.specs.BuiltIn.{built_in_classes_in, built_in_methods_in, class_id, class_type}
 use Rattle.kilim_program.specs.Fits.{fits_type, is_named, type_assignable}
 use Rattle.kilim_program.specs.Keeps.{Keeps}
 use Rattle.kilim_program.specs.Kinds.{class_kind, is_message, is_value_class}
 use Rattle.kilim_program.specs.Names.{◌>>=◌, class_at, class_name, class_named, is_named_task, is_task, line_of, line_up_to, method_at}
 use Rattle.kilim_program.specs.Program.{Program}
-use Rattle.kilim_program.proofs.BuiltIns.{constructors_too}
+use Rattle.kilim_program.proofs.BuiltIns.{exceptions_too}
 use Rattle.kilim_program.specs.Same.{is_constructor}
 use Rattle.kilim_lemmas.proofs.Lists.{get_right}
 use Rattle.kilim_lemmas.proofs.Texts.{text_is}
@@ -44,7 +44,7 @@ use Rattle.kilim_run_state.specs.declared.value.Token.TheVariants as token
 use Rattle.kilim_program.specs.Members.{named_class, named_type}
 use Rattle.kilim_run_state.specs.Machine.{Objects}
 use Rattle.kilim_program.specs.Members.{is_concrete}
-use Rattle.kilim_run_machine.specs.Natives.{is_built_in_constructor, is_text_method}
+use Rattle.kilim_run_machine.specs.Natives.{is_built_in_constructor, is_of_message, is_text_method}
 use Rattle.kilim_isolation_laws.proofs.sorts.Choosing.{of_object}
 use Rattle.kilim_isolation_laws.proofs.sorts.KindsOfClasses.{ClassFlow}
 use Rattle.kilim_isolation_laws.proofs.sorts.Sorted.{classes_flow, message_is_tree}
@@ -67,10 +67,10 @@ string_methods : (a b : ℕ) (c : Class) → slice_get (built_in_classes_in Plai
 string_methods a b c e = let s : _ ≡ c = some e in sym (ap (λ (x : Class). x.methods) s)
 
 all_built : (n : ℕ) → AllByRecursion (λ (m : Method). m.built_in ≡ true) (built_in_methods_in Plain n)
-all_built n = (refl, (refl, (refl, (refl, (refl, (refl, (refl, (refl, (refl, (refl, (refl, (refl, (refl, (refl, (refl, (refl, (refl, (refl, (refl, (refl, constructors_too (λ (m : Method). m.built_in ≡ true) n exception_numbers [] (λ c. refl) tt))))))))))))))))))))
+all_built n = (refl, (refl, (refl, (refl, (refl, (refl, (refl, (refl, (refl, (refl, (refl, (refl, (refl, (refl, (refl, (refl, (refl, (refl, (refl, (refl, exceptions_too (λ (m : Method). m.built_in ≡ true) n [] (λ c. refl) (λ c. refl) refl tt))))))))))))))))))))
 
 all_bare : (n : ℕ) → AllByRecursion (λ (m : Method). has_code m ≡ false) (built_in_methods_in Plain n)
-all_bare n = (refl, (refl, (refl, (refl, (refl, (refl, (refl, (refl, (refl, (refl, (refl, (refl, (refl, (refl, (refl, (refl, (refl, (refl, (refl, (refl, constructors_too (λ (m : Method). has_code m ≡ false) n exception_numbers [] (λ c. refl) tt))))))))))))))))))))
+all_bare n = (refl, (refl, (refl, (refl, (refl, (refl, (refl, (refl, (refl, (refl, (refl, (refl, (refl, (refl, (refl, (refl, (refl, (refl, (refl, (refl, exceptions_too (λ (m : Method). has_code m ≡ false) n [] (λ c. refl) (λ c. refl) refl tt))))))))))))))))))))
 
 number_of : Base → ℕ
 number_of (base.Class c) = c.0
@@ -120,15 +120,15 @@ module _ (p : Program) (keeps : Keeps p) (form : p.form ≡ Plain) where
   pub sys_name : class_name p (class_id (first p keeps form + 6)) ≡ codes "kilim/Sys"
   sys_name = named_at p keeps Plain form 6 (codes "kilim/Sys") (record { class = _; at = refl; is = refl })
 
-  -- a built-in constructor that takes something has a receiver, of another class than that of strings
+  -- A built-in constructor that takes something, and not the message of an exception, has a receiver of another class than that of strings.
   OtherClass : Method → Type 0
-  OtherClass m = is_built_in_constructor m ≡ false → is_constructor m ≡ true → (is_text_method p m ≡ false) × (m.is_static ≡ false)
+  OtherClass m = is_built_in_constructor m ≡ false → is_of_message m ≡ false → is_constructor m ≡ true → (is_text_method p m ≡ false) × (m.is_static ≡ false)
 
   all_other : AllByRecursion OtherClass (built_in_methods_in Plain (length keeps.built_in.own_classes))
   unfolding OtherClass
-  all_other = ((λ a b. absurd (let z : true ≡ false = a in cc)), ((λ a b. absurd (let z : false ≡ true = b in cc)), ((λ a b. absurd (let z : false ≡ true = b in cc)), ((λ a b. absurd (let z : false ≡ true = b in cc)), ((λ a b. absurd (let z : true ≡ false = a in cc)), ((λ a b. absurd (let z : false ≡ true = b in cc)), ((λ a b. absurd (let z : false ≡ true = b in cc)), ((λ a b. absurd (let z : true ≡ false = a in cc)), ((λ a b. (ap (λ (x : List ℕ). bytes_eq x (codes "java/lang/String")) mailbox_name, refl)), ((λ a b. absurd (let z : false ≡ true = b in cc)), ((λ a b. absurd (let z : false ≡ true = b in cc)), ((λ a b. absurd (let z : false ≡ true = b in cc)), ((λ a b. absurd (let z : false ≡ true = b in cc)), ((λ a b. absurd (let z : false ≡ true = b in cc)), ((λ a b. absurd (let z : false ≡ true = b in cc)), ((λ a b. absurd (let z : false ≡ true = b in cc)), ((λ a b. absurd (let z : false ≡ true = b in cc)), ((λ a b. absurd (let z : false ≡ true = b in cc)), ((λ a b. absurd (let z : false ≡ true = b in cc)), ((λ a b. absurd (let z : false ≡ true = b in cc)), constructors_too OtherClass (length keeps.built_in.own_classes) exception_numbers [] (λ c a b. absurd (let z : true ≡ false = a in cc)) tt))))))))))))))))))))
+  all_other = ((λ a o b. absurd (let z : true ≡ false = a in cc)), ((λ a o b. absurd (let z : false ≡ true = b in cc)), ((λ a o b. absurd (let z : false ≡ true = b in cc)), ((λ a o b. absurd (let z : false ≡ true = b in cc)), ((λ a o b. absurd (let z : true ≡ false = a in cc)), ((λ a o b. absurd (let z : false ≡ true = b in cc)), ((λ a o b. absurd (let z : false ≡ true = b in cc)), ((λ a o b. absurd (let z : true ≡ false = a in cc)), ((λ a o b. (ap (λ (x : List ℕ). bytes_eq x (codes "java/lang/String")) mailbox_name, refl)), ((λ a o b. absurd (let z : false ≡ true = b in cc)), ((λ a o b. absurd (let z : false ≡ true = b in cc)), ((λ a o b. absurd (let z : false ≡ true = b in cc)), ((λ a o b. absurd (let z : false ≡ true = b in cc)), ((λ a o b. absurd (let z : false ≡ true = b in cc)), ((λ a o b. absurd (let z : false ≡ true = b in cc)), ((λ a o b. absurd (let z : false ≡ true = b in cc)), ((λ a o b. absurd (let z : false ≡ true = b in cc)), ((λ a o b. absurd (let z : false ≡ true = b in cc)), ((λ a o b. absurd (let z : false ≡ true = b in cc)), ((λ a o b. absurd (let z : false ≡ true = b in cc)), exceptions_too OtherClass (length keeps.built_in.own_classes) [] (λ c a o b. absurd (let z : true ≡ false = a in cc)) (λ c a o b. absurd (let z : true ≡ false = o in cc)) (λ a o b. absurd (let z : false ≡ true = b in cc)) tt))))))))))))))))))))
 
-  pub constructs_other : (id : MethodId) (m : Method) → method_at p id ≡ Some m → m.built_in ≡ true → is_built_in_constructor m ≡ false → is_constructor m ≡ true → (is_text_method p m ≡ false) × (m.is_static ≡ false)
+  pub constructs_other : (id : MethodId) (m : Method) → method_at p id ≡ Some m → m.built_in ≡ true → is_built_in_constructor m ≡ false → is_of_message m ≡ false → is_constructor m ≡ true → (is_text_method p m ≡ false) × (m.is_static ≡ false)
   unfolding OtherClass
   constructs_other id m there own = built_in_one p keeps form OtherClass all_other id m there own
 

@@ -32,11 +32,11 @@ use Rattle.kilim_type_sound.proofs.Grounds.{facts_hold}
 use Rattle.kilim_type_sound.proofs.Grown.{type_grown}
 use Rattle.kilim_isolation_pauses.specs.Pausing.{called}
 use Rattle.kilim_run_state.specs.declared.value.Object.{Object as HeapObject}
-use Rattle.kilim_run_machine.specs.Does.{above_of, at_unit, calls_method, calls_on, calls_text, chosen, does, special, superclass_of, takes_element, text_answers, unit_at}
+use Rattle.kilim_run_machine.specs.Does.{above_of, at_unit, calls_method, calls_on, calls_text, chosen, does, gives_message, keeps_message, special, superclass_of, takes_element, text_answers, unit_at}
 use Rattle.kilim_run_machine.specs.Effect.{Asks, Calls, Effect, Ends, Goes, Makes, Opens, Raises, Throws, Returns, Stuck, as_class, as_receiver, on_value, on_values, with_some}
 use Rattle.kilim_program.specs.Members.{named_type}
 use Rattle.kilim_run_state.specs.Machine.{Objects}
-use Rattle.kilim_run_machine.specs.Natives.{is_built_in_constructor, is_handed_out, is_text_method}
+use Rattle.kilim_run_machine.specs.Natives.{is_built_in_constructor, is_get_message, is_handed_out, is_message_constructor, is_text_method}
 use Rattle.kilim_type_spec.specs.Step.{Is, Types, arguments, by_row, class_vtype, may_name, needs, peek, result_types, row, special_by, special_fits, special_row, special_rules, static_row, static_rules, type_step, virtual_row, virtual_rules}
 use Rattle.kilim_type_laws.specs.Laws.{typing_at}
 use Rattle.kilim_fiber_laws.proofs.courses.answers.Asked.{Other, Seen, Special, Static, Virtual, quiet, seen}
@@ -215,11 +215,24 @@ module _ (p : Program) (keeps : Keeps p) (form : p.form ≡ Plain) (of : Classes
 
   -- a method that is called
   c_method : (c : MethodId) (callee : Method) (args rest : List Value) → method_at p c ≡ Some callee → (callee.built_in ≡ false → is_pausable p c ≡ true → Boundary p of c (self_of p c args) m to l rest) → CallsFrom p of m (calls_method (method_at p c) c args to l rest h)
-  c_method c callee args rest at_c k = subst (λ (o : Option Method). CallsFrom p of m (calls_method o c args to l rest h)) (sym at_c) (by callee.built_in refl)
+  c_method c callee args rest at_c k = subst (λ (o : Option Method). CallsFrom p of m (calls_method o c args to l rest h)) (sym at_c) (by callee.built_in (is_message_constructor callee) (is_get_message callee) refl)
     where
-      by : (z : Bool) → callee.built_in ≡ z → CallsFrom p of m (cond z (Asks c args to l rest h) (Calls c args to l rest h))
-      by true e = tt
-      by false e = k e
+      keeps_quiet : (args : List Value) → CallsFrom p of m (keeps_message args to l rest h)
+      keeps_quiet [] = tt
+      keeps_quiet (v ∷ []) = tt
+      keeps_quiet (v ∷ w ∷ []) = from_quiet (keeps_message (v ∷ w ∷ []) to l rest h) (simp (q_object, q_some))
+      keeps_quiet (v ∷ w ∷ x ∷ vs) = tt
+
+      gives_quiet : (args : List Value) → CallsFrom p of m (gives_message args to l rest h)
+      gives_quiet [] = tt
+      gives_quiet (v ∷ []) = from_quiet (gives_message (v ∷ []) to l rest h) (simp (q_object, q_some))
+      gives_quiet (v ∷ w ∷ vs) = tt
+
+      by : (z keeps gives : Bool) → callee.built_in ≡ z → CallsFrom p of m (cond z (cond keeps (keeps_message args to l rest h) (cond gives (gives_message args to l rest h) (Asks c args to l rest h))) (Calls c args to l rest h))
+      by true true gives e = keeps_quiet args
+      by true false true e = gives_quiet args
+      by true false false e = tt
+      by false keeps gives e = k e
 
   -- the frame, where an object is called
   on_object : (i : Instr) → fetch p m at ≡ Some (i, to) → (named : Method) → called p i ≡ Some named → named.is_static ≡ false → (c : MethodId) (callee : Method) → method_at p c ≡ Some callee → callee.is_static ≡ false → callee.built_in ≡ false → callee.params ≡ named.params → callee.result ≡ named.result → (v : Value) (args rest r : List Value) → IsRest (length named.params) r → r ≡ v ∷ rest → Target p of own i named c v →

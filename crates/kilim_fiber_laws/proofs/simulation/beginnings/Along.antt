@@ -1,5 +1,5 @@
 -- A path from a beginning to a state that both sides share, and then the whole run.
-use Rattle.std.proofs.Common.{◌≡◌, ◌≢◌, ◌⊎◌, inl, inr, ℕ, zero, suc, ◌+◌, ◌*◌, ◌≤◌, Bool, true, false, List, [], ◌∷◌, Option, Some, refl, sym, ap, subst, ◌∙◌, arith}
+use Rattle.std.proofs.Common.{◌≡◌, ◌≢◌, ◌⊎◌, inl, inr, ℕ, zero, suc, ◌+◌, ◌*◌, ◌≤◌, Bool, true, false, List, [], ◌∷◌, Option, Some, None, refl, sym, ap, subst, ◌∙◌, arith}
 use Rattle.std.specs.Prelude.{◌↔◌, if◌then◌else◌, nat_le}
 use Rattle.std.proofs.lemmas.Bool.{false≢true}
 use Rattle.kilim_program.specs.declared.class.Method.{Method}
@@ -220,11 +220,11 @@ module _ (set : Setting) (W : Program) (marks : List (List Bool)) (most : ℕ) (
       let z = constructor_begins set W marks most (At_some first) (runs_of first) members form facts rows enough c args w ps not_pausable in
       record { both = z.0; is = z.1; fine = z.3; count = 0; few = omega arith; way = subst (λ (y : Woven_state). Comes set W marks most (At_some first) 0 y 0 (woven set W marks form z.0)) z.2 stop }
 
-  execute_leads : (c : MethodId) (n : ℕ) (w : World) (ps : List ℕ) → Takes set W marks form c (value.Ref n ∷ []) (value.Ref n) → (is_pausable set.program c ≡ true → IsThere w.heap (value.Ref n)) →
+  execute_leads : (c : MethodId) (n : ℕ) (w : World) (ps : List ℕ) → Takes set W marks form c (value.Ref n ∷ []) (value.Ref n) → is_pausable set.program c ≡ true → IsThere w.heap (value.Ref n) →
       Leads (Run c 0 (entered set.program c (value.Ref n ∷ [])).locals [] (value.Ref n) [] w) (enter set W marks c (value.Ref n ∷ value.Fiber ∷ []) [] new_fiber w ps)
-  execute_leads c n w ps takes self_there =
+  execute_leads c n w ps takes pauses self_there =
       let first = Run c 0 (entered set.program c (value.Ref n ∷ [])).locals [] (value.Ref n) [] w in
-      let z = execute_begins set W marks most (At_some first) (runs_of first) members form facts rows enough c n w ps takes self_there in
+      let z = execute_begins set W marks most (At_some first) (runs_of first) members form facts rows enough c n w ps takes pauses self_there in
       let few = z.4 in
       record { both = z.0; is = z.1; fine = z.2; count = z.3; few = omega (arith, few); way = z.5 }
 
@@ -234,13 +234,16 @@ module _ (set : Setting) (W : Program) (marks : List (List Bool)) (most : ℕ) (
       let first = Run c 0 (entered set.program c args).locals [] (self_of set.program c args) [] w in
       along (From set first) known first (enter set W marks c args [] new_fiber w ps) (plain_leads c args w ps not_pausable) (0, refl)
 
-  task_along : (c : MethodId) (a b : Method) (n : ℕ) (w : World) (ps : List ℕ) → method_at set.program c ≡ Some a → method_at W c ≡ Some b → b.built_in ≡ a.built_in → Takes set W marks form c (value.Ref n ∷ []) (value.Ref n) → Known set W marks form (From set (started set n w (Some c))) →
+  task_along : (c : MethodId) (a b : Method) (n : ℕ) (w : World) (ps : List ℕ) → method_at set.program c ≡ Some a → method_at W c ≡ Some b → b.built_in ≡ a.built_in → a.pausable ≡ true → Takes set W marks form c (value.Ref n ∷ []) (value.Ref n) → Known set W marks form (From set (started set n w (Some c))) →
       ServesAlong set W marks form most (started set n w (Some c)) (wstarted set W marks n w new_fiber ps (Some c))
-  task_along c a b n w ps there woven_there same takes known =
+  task_along c a b n w ps there woven_there same pausable takes known =
       subst (λ (o : Option Method). ServesAlong set W marks form most (started set n w (Some c)) (wstarted_in set W marks c n w new_fiber ps o)) (sym woven_there)
       (subst (λ (z : Bool). ServesAlong set W marks form most (started set n w (Some c)) (if z then spending set w WStop (ending set w WStop cause.Done) else enter set W marks c (value.Ref n ∷ value.Fiber ∷ []) [] new_fiber w ps)) (sym same)
       (by a.built_in (ap (started_in set c n w) there) known))
     where
+      pauses : is_pausable set.program c ≡ true
+      pauses = ap (λ (o : Option Method). elim o [ None ↦ false | Some z ↦ z.pausable ]) there ∙ pausable
+
       by : (z : Bool) → started set n w (Some c) ≡ (if z then spending set w Stop (ending set w Stop cause.Done) else Run c 0 (entered set.program c (value.Ref n ∷ [])).locals [] (value.Ref n) [] w) → Known set W marks form (From set (started set n w (Some c))) →
           ServesAlong set W marks form most (started set n w (Some c)) (if z then spending set w WStop (ending set w WStop cause.Done) else enter set W marks c (value.Ref n ∷ value.Fiber ∷ []) [] new_fiber w ps)
       by true e known =
@@ -250,11 +253,11 @@ module _ (set : Setting) (W : Program) (marks : List (List Bool)) (most : ℕ) (
       by false e known =
           let first = Run c 0 (entered set.program c (value.Ref n ∷ [])).locals [] (value.Ref n) [] w in
           subst (λ (t : Thread). ServesAlong set W marks form most t (enter set W marks c (value.Ref n ∷ value.Fiber ∷ []) [] new_fiber w ps)) (sym e)
-          (along (From set first) (subst (λ (t : Thread). Known set W marks form (From set t)) e known) first (enter set W marks c (value.Ref n ∷ value.Fiber ∷ []) [] new_fiber w ps) (execute_leads c n w ps takes (λ pausable.
-          (subst (λ (t : Thread). Known set W marks form (From set t)) e known).self_there c 0 (entered set.program c (value.Ref n ∷ [])).locals [] (value.Ref n) [] w (0, refl) pausable)) (0, refl))
+          (along (From set first) (subst (λ (t : Thread). Known set W marks form (From set t)) e known) first (enter set W marks c (value.Ref n ∷ value.Fiber ∷ []) [] new_fiber w ps) (execute_leads c n w ps takes pauses
+          ((subst (λ (t : Thread). Known set W marks form (From set t)) e known).self_there c 0 (entered set.program c (value.Ref n ∷ [])).locals [] (value.Ref n) [] w (0, refl) pauses)) (0, refl))
 
 pub beginnings_serve : BeginningsServe
 beginnings_serve set W marks form members facts rows = (
   (λ c args w ps not_pausable known. plain_along set W marks most_uncounted members form facts rows bound_is_enough c args w ps not_pausable known),
-  (λ c a b n w ps there woven_there same takes known. task_along set W marks most_uncounted members form facts rows bound_is_enough c a b n w ps there woven_there same takes known),
+  (λ c a b n w ps there woven_there same pausable takes known. task_along set W marks most_uncounted members form facts rows bound_is_enough c a b n w ps there woven_there same pausable takes known),
 )

@@ -15,20 +15,20 @@ use Rattle.kilim_program.specs.declared.names.MethodId.{MethodId}
 use Rattle.kilim_program.specs.declared.ty.Ty.{Ty}
 use Rattle.kilim_program.specs.declared.value.Value.{Value}
 use Rattle.kilim_program.specs.declared.value.Value.TheVariants.{Int, Long, Null, Ref, Text, Box, Fiber}
-use Rattle.kilim_program.specs.BuiltIn.{built_in_constructor, built_in_methods_in, class_id, class_type, exception_numbers}
+use Rattle.kilim_program.specs.BuiltIn.{built_in_constructor, built_in_methods_in, class_id, class_type, get_message, message_constructor}
 use Rattle.kilim_program.specs.Fits.{fits_type}
 use Rattle.kilim_program.specs.Keeps.{Keeps, code_is_whole}
 use Rattle.kilim_program.specs.Lengths.{code_stands, fetched}
 use Rattle.kilim_program.specs.Names.{class_at, class_name, is_empty, method_at}
 use Rattle.kilim_program.specs.Program.{Program}
-use Rattle.kilim_program.proofs.BuiltIns.{constructors_too}
+use Rattle.kilim_program.proofs.BuiltIns.{exceptions_too}
 use Rattle.kilim_program.specs.Same.{is_constructor}
 use Rattle.kilim_run_state.specs.declared.value.Object.{Object}
-use Rattle.kilim_run_machine.specs.Does.{does, calls_method, calls_on, calls_text, chosen, special, takes_element, text_answers, unit_at, at_unit}
-use Rattle.kilim_run_machine.specs.Effect.{Effect, Goes, Calls, Asks, with_some, on_value, on_values, as_receiver, as_class, as_int, as_object, at_index, at_place, text_of, when}
+use Rattle.kilim_run_machine.specs.Does.{does, calls_method, calls_on, calls_text, chosen, gives_message, keeps_message, special, takes_element, text_answers, unit_at, at_unit}
+use Rattle.kilim_run_machine.specs.Effect.{Effect, Goes, Makes, Opens, Calls, Asks, Returns, Raises, Throws, Ends, Stuck, with_some, on_value, on_values, as_receiver, as_class, as_int, as_object, at_index, at_place, text_of, when}
 use Rattle.kilim_program.specs.Members.{named_type}
 use Rattle.kilim_run_state.specs.Machine.{Objects}
-use Rattle.kilim_run_machine.specs.Natives.{Native, is_built_in_constructor, is_handed_out, is_take, is_text_method, native_method, native_named, natives, native_in}
+use Rattle.kilim_run_machine.specs.Natives.{Native, is_built_in_constructor, is_get_message, is_handed_out, is_message_constructor, is_of, is_of_message, is_take, is_text_method, native_method, native_named, natives, native_in, takes_object}
 use Rattle.kilim_type_spec.specs.Step.{Types, by_row, missing, may_make, may_name, row, special_by, special_fits, special_row, static_row, type_step, virtual_row}
 use Rattle.kilim_type_spec.specs.Typed.{IsWellTyped, typing_of}
 use Rattle.kilim_type_laws.proofs.Edges.{stands_at}
@@ -42,6 +42,7 @@ use Rattle.kilim_weave_laws.proofs.woven_programs.Frames.{by_place}
 use Rattle.kilim_fiber_spec.specs.Fibers.{as_member}
 use Rattle.kilim_fiber_spec.specs.Rows.{IsClean, below_arguments, class_if, value_class}
 use Rattle.kilim_fiber_spec.specs.Serves.{is_pausing_native}
+use Rattle.kilim_fiber_spec.proofs.alike.Lands.{hushed, q_object, q_some}
 
 -- ---- the built-in methods of plain programs
 
@@ -65,10 +66,26 @@ module _ (P : Program) where
     handed_out = λ h. absurd (false≢true (sym p ∙ h));
   }
 
+  -- one of the message of an exception
+  of_message : (m : Method) (class : List ℕ) → class_name P m.owner ≡ class → m.built_in ≡ true → m.pausable ≡ false → is_of_message m ≡ true → FitBuiltIn P m
+  of_message m class e b p o = still m class e b p (subst (λ (z : Option Native). FitNative z false) (sym none) tt)
+    where
+      not_out : (z constructs text take message : Bool) → message ≡ true → (z && not (constructs || (text || (take || message)))) ≡ false
+      not_out false constructs text take message is = refl
+      not_out true true text take message is = refl
+      not_out true false true take message is = refl
+      not_out true false false true message is = refl
+      not_out true false false false true is = refl
+      not_out true false false false false is = absurd (false≢true is)
+
+      none : native_in class m ≡ None
+      none = ap (λ (z : Bool). if z then native_named natives class m.name else None)
+          (not_out m.built_in (is_built_in_constructor m) (is_of class (codes "java/lang/String") m) (is_of class (codes "kilim/Sys") m && bytes_eq m.name (codes "take")) (is_of_message m) o)
+
   -- one that pauses
   pauses : (m : Method) (class : List ℕ) → class_name P m.owner ≡ class → m.built_in ≡ true → m.pausable ≡ true → FitNative (native_in class m) true
-      → bytes_eq class (codes "java/lang/String") ≡ false → bytes_eq m.name (codes "<init>") ≡ false → bytes_eq m.name (codes "take") ≡ false → FitBuiltIn P m
-  pauses m class e b p n text plain take = record {
+      → bytes_eq class (codes "java/lang/String") ≡ false → bytes_eq m.name (codes "<init>") ≡ false → bytes_eq m.name (codes "take") ≡ false → bytes_eq m.name (codes "getMessage") ≡ false → FitBuiltIn P m
+  pauses m class e b p n text plain take gets = record {
     native = subst (λ (z : Bool). FitNative (native_method P m) z) (sym p) (subst (λ (z : List ℕ). FitNative (native_in z m) true) (sym e) n);
     text = λ h. no_text;
     handed_out = λ h. handed;
@@ -87,12 +104,18 @@ module _ (P : Program) where
       no_constructor : is_built_in_constructor m ≡ false
       no_constructor = ap (λ (z : Bool). z && (bytes_eq m.name (codes "<init>") && is_empty m.params)) b ∙ ap (λ (z : Bool). true && (z && is_empty m.params)) plain
 
+      no_message : is_of_message m ≡ false
+      no_message =
+          ap (λ (z : Bool). (z && (bytes_eq m.name (codes "<init>") && takes_object m.params)) || (z && bytes_eq m.name (codes "getMessage"))) b
+          ∙ ap (λ (z : Bool). (true && (z && takes_object m.params)) || (true && bytes_eq m.name (codes "getMessage"))) plain ∙ gets
+
       handed : is_handed_out P m ≡ true
       handed =
-          ap (λ (z : Bool). z && not (is_built_in_constructor m || (is_text_method P m || is_take P m))) b
-          ∙ ap (λ (z : Bool). true && not (z || (is_text_method P m || is_take P m))) no_constructor
-          ∙ ap (λ (z : Bool). true && not (false || (z || is_take P m))) no_text
-          ∙ ap (λ (z : Bool). true && not (false || (false || z))) no_take
+          ap (λ (z : Bool). z && not (is_built_in_constructor m || (is_text_method P m || (is_take P m || is_of_message m)))) b
+          ∙ ap (λ (z : Bool). true && not (z || (is_text_method P m || (is_take P m || is_of_message m)))) no_constructor
+          ∙ ap (λ (z : Bool). true && not (false || (z || (is_take P m || is_of_message m)))) no_text
+          ∙ ap (λ (z : Bool). true && not (false || (false || (z || is_of_message m)))) no_take
+          ∙ ap (λ (z : Bool). true && not (false || (false || (false || z)))) no_message
 
 module _ (P : Program) (keeps : Keeps P) (plainly : P.form ≡ Plain) where
   abbrev n : ℕ
@@ -133,7 +156,7 @@ module _ (P : Program) (keeps : Keeps P) (plainly : P.form ≡ Plain) where
             (
               still P _ _ task refl refl (refl, refl),
               (
-                pauses P _ _ task refl refl (refl, refl) refl refl refl,
+                pauses P _ _ task refl refl (refl, refl) refl refl refl refl,
                 (
                   still P _ _ mailbox refl refl tt,
                   (
@@ -141,9 +164,9 @@ module _ (P : Program) (keeps : Keeps P) (plainly : P.form ≡ Plain) where
                     (
                       still P _ _ mailbox refl refl (refl, refl),
                       (
-                        pauses P _ _ mailbox refl refl (refl, refl) refl refl refl,
+                        pauses P _ _ mailbox refl refl (refl, refl) refl refl refl refl,
                         (
-                          pauses P _ _ mailbox refl refl (refl, refl) refl refl refl,
+                          pauses P _ _ mailbox refl refl (refl, refl) refl refl refl refl,
                           (
                             still P _ _ mailbox refl refl (refl, refl),
                             (
@@ -153,12 +176,12 @@ module _ (P : Program) (keeps : Keeps P) (plainly : P.form ≡ Plain) where
                                 (
                                   still P _ _ sys refl refl (refl, refl),
                                   (
-                                    pauses P _ _ sys refl refl (refl, refl) refl refl refl,
+                                    pauses P _ _ sys refl refl (refl, refl) refl refl refl refl,
                                     (
                                       still P _ _ sys refl refl (refl, refl),
                                       (
                                         still P _ _ sys refl refl (refl, refl),
-                                        (still P _ _ sys refl refl tt, constructors_too (FitBuiltIn P) n exception_numbers [] (λ c. still P (built_in_constructor c) (class_name P c) refl refl refl tt) tt),
+                                        (still P _ _ sys refl refl tt, exceptions_too (FitBuiltIn P) n [] (λ c. still P (built_in_constructor c) (class_name P c) refl refl refl tt) (λ c. of_message P (message_constructor n c) (class_name P c) refl refl refl refl) (of_message P (get_message n) (class_name P (class_id (n + 7))) refl refl refl refl) tt),
                                       ),
                                     ),
                                   ),
@@ -190,7 +213,7 @@ module _ (P : Program) (keeps : Keeps P) (plainly : P.form ≡ Plain) where
     where
       by : (z : Bool) → m.built_in ≡ z → FitNative (native_method P m) m.pausable
       by true e = (fit id m at e).native
-      by false e = subst (λ (z : Bool). FitNative (if z && not (is_built_in_constructor m || (is_text_method P m || is_take P m)) then native_named natives (class_name P m.owner) m.name else None) m.pausable) (sym e) tt
+      by false e = subst (λ (z : Bool). FitNative (if z && not (is_built_in_constructor m || (is_text_method P m || (is_take P m || is_of_message m))) then native_named natives (class_name P m.owner) m.name else None) m.pausable) (sym e) tt
 
 -- ---- well-typed code
 
@@ -274,16 +297,42 @@ AllCalled good (Asks c args q l s heap) = good c
 AllCalled good e = Unit {0}
 
 module _ (good : MethodId → Type 0) (P : Program) (to : ℕ) (l : List Value) (heap : Objects) where
+  -- what calls nothing
+  quiet : (e : Effect) → hushed e ≡ e → AllCalled good e
+  quiet (Calls c args q l s k) e = absurd (let z : Stuck ≡ Calls c args q l s k = e in cc)
+  quiet (Asks c args q l s k) e = absurd (let z : Stuck ≡ Asks c args q l s k = e in cc)
+  quiet (Goes q l s k) e = tt
+  quiet (Makes o q l s k) e = tt
+  quiet (Opens q l s k) e = tt
+  quiet (Returns v k) e = tt
+  quiet (Raises c) e = tt
+  quiet (Throws n k c) e = tt
+  quiet (Ends c) e = tt
+  quiet Stuck e = tt
+
   g_method : (c : MethodId) (args s : List Value) → ((m : Method) → method_at P c ≡ Some m → good c) → AllCalled good (calls_method (method_at P c) c args to l s heap)
   g_method c args s h = by (method_at P c) refl
     where
-      kinds : (m : Method) → method_at P c ≡ Some m → (t : Bool) → AllCalled good (if t then Asks c args to l s heap else Calls c args to l s heap)
-      kinds m e true = h m e
-      kinds m e false = h m e
+      keeps_none : (args : List Value) → AllCalled good (keeps_message args to l s heap)
+      keeps_none [] = tt
+      keeps_none (v ∷ []) = tt
+      keeps_none (v ∷ w ∷ []) = quiet (keeps_message (v ∷ w ∷ []) to l s heap) (simp (q_object, q_some))
+      keeps_none (v ∷ w ∷ x ∷ vs) = tt
+
+      gives_none : (args : List Value) → AllCalled good (gives_message args to l s heap)
+      gives_none [] = tt
+      gives_none (v ∷ []) = quiet (gives_message (v ∷ []) to l s heap) (simp (q_object, q_some))
+      gives_none (v ∷ w ∷ vs) = tt
+
+      kinds : (m : Method) → method_at P c ≡ Some m → (t keeps gives : Bool) → AllCalled good (if t then (if keeps then keeps_message args to l s heap else (if gives then gives_message args to l s heap else Asks c args to l s heap)) else Calls c args to l s heap)
+      kinds m e true true gives = keeps_none args
+      kinds m e true false true = gives_none args
+      kinds m e true false false = h m e
+      kinds m e false keeps gives = h m e
 
       by : (o : Option Method) → method_at P c ≡ o → AllCalled good (calls_method o c args to l s heap)
       by None e = tt
-      by (Some m) e = kinds m e m.built_in
+      by (Some m) e = kinds m e m.built_in (is_message_constructor m) (is_get_message m)
 
   g_values : (k : ℕ) (s : List Value) (go : List Value → List Value → Effect) → ((vs r : List Value) → below_arguments k s ≡ r → AllCalled good (go vs r)) → AllCalled good (on_values k s go)
   g_values zero s go h = h [] s refl

@@ -77,14 +77,14 @@ module _ (P W : Program) (counted : List (List Bool)) (keeps : Keeps P) (plainly
 
   -- the number of a member, among the methods of the fiber's class
   abbrev at_number : ℕ → MethodId
-  at_number n = method_id (first_method P + (31 + n))
+  at_number n = method_id (first_method P + (43 + n))
 
-  many : length P.methods ≡ length keeps.built_in.own_methods + 31
+  many : length P.methods ≡ length keeps.built_in.own_methods + 43
   many = ap length keeps.built_in.methods
       ∙ (length-append keeps.built_in.own_methods (built_in_methods_in P.form (length keeps.built_in.own_classes)) ∙ ap (λ (f : Form). length keeps.built_in.own_methods + length (built_in_methods_in f (length keeps.built_in.own_classes))) plainly)
 
-  number : (n : ℕ) → first_method P + (31 + n) ≡ length P.methods + n
-  number n = let e : first_method P ≡ length P.methods - 31 = refl in let m = many in omega (arith, e, m)
+  number : (n : ℕ) → first_method P + (43 + n) ≡ length P.methods + n
+  number n = let e : first_method P ≡ length P.methods - 43 = refl in let m = many in omega (arith, e, m)
 
   is_there : (n : ℕ) (m : Method) → slice_get (fiber_methods Woven (first_class P)) n ≡ Some m → method_at W (at_number n) ≡ Some m
   is_there n m e = ap (λ (k : ℕ). method_at W (method_id k)) (number n) ∙ (fibers_of.member_at P W counted keeps plainly form n m e).0
@@ -135,15 +135,15 @@ module _ (P W : Program) (counted : List (List Bool)) (keeps : Keeps P) (plainly
   Each n k = IsMember W (member P n) (size_of k) k (fiber_ty P)
 
   pub each : (n : ℕ) (k : FiberMember) → slice_get members_in_order n ≡ Some k → IsMember W (member P n) (size_of k) k (fiber_ty P)
-  each zero k e = subst (Each 0) (same_Some Pc k e) (of 0 0 Pc _ refl refl (fibers_of.of_fiber W _ Pc named refl refl refl refl refl) refl refl refl)
-  each (suc zero) k e = subst (Each 1) (same_Some Down k e) (of 1 0 Down _ refl refl (fibers_of.of_fiber W _ Down named refl refl refl refl refl) refl refl refl)
-  each (suc (suc zero)) k e = subst (Each 2) (same_Some Up k e) (of 2 0 Up _ refl refl (fibers_of.of_fiber W _ Up named refl refl refl refl refl) refl refl refl)
-  each (suc (suc (suc zero))) k e = subst (Each 3) (same_Some Save k e) (of 3 2 Save _ refl refl (fibers_of.of_fiber W _ Save named refl refl refl refl refl) refl refl refl)
-  each (suc (suc (suc (suc zero)))) k e = subst (Each 4) (same_Some Save k e) (of 4 2 Save _ refl refl (fibers_of.of_fiber W _ Save named refl refl refl refl refl) refl refl refl)
-  each (suc (suc (suc (suc (suc zero))))) k e = subst (Each 5) (same_Some Save k e) (of 5 2 Save _ refl refl (fibers_of.of_fiber W _ Save named refl refl refl refl refl) refl refl refl)
-  each (suc (suc (suc (suc (suc (suc zero)))))) k e = subst (Each 6) (same_Some Place k e) (of 6 3 Place _ refl refl (fibers_of.of_fiber W _ Place named refl refl refl refl refl) refl refl refl)
-  each (suc (suc (suc (suc (suc (suc (suc zero))))))) k e = subst (Each 7) (same_Some Restore k e) (of 7 0 Restore _ refl refl (fibers_of.of_fiber W _ Restore named refl refl refl refl refl) refl refl refl)
-  each (suc (suc (suc (suc (suc (suc (suc (suc zero)))))))) k e = subst (Each 8) (same_Some Restore k e) (of 8 0 Restore _ refl refl (fibers_of.of_fiber W _ Restore named refl refl refl refl refl) refl refl refl)
-  each (suc (suc (suc (suc (suc (suc (suc (suc (suc zero))))))))) k e = subst (Each 9) (same_Some Restore k e) (of 9 0 Restore _ refl refl (fibers_of.of_fiber W _ Restore named refl refl refl refl refl) refl refl refl)
-  each (suc (suc (suc (suc (suc (suc (suc (suc (suc (suc zero)))))))))) k e = subst (Each 10) (same_Some Receiver k e) (of 10 0 Receiver _ refl refl (fibers_of.of_fiber W _ Receiver named refl refl refl refl refl) refl refl refl)
+  each zero k e = subst (Each 0) (same_Some Pc k e) (of 0 0 Pc _ refl refl (fibers_of.of_fiber W _ Pc named refl refl refl refl refl refl) refl refl refl)
+  each (suc zero) k e = subst (Each 1) (same_Some Down k e) (of 1 0 Down _ refl refl (fibers_of.of_fiber W _ Down named refl refl refl refl refl refl) refl refl refl)
+  each (suc (suc zero)) k e = subst (Each 2) (same_Some Up k e) (of 2 0 Up _ refl refl (fibers_of.of_fiber W _ Up named refl refl refl refl refl refl) refl refl refl)
+  each (suc (suc (suc zero))) k e = subst (Each 3) (same_Some Save k e) (of 3 2 Save _ refl refl (fibers_of.of_fiber W _ Save named refl refl refl refl refl refl) refl refl refl)
+  each (suc (suc (suc (suc zero)))) k e = subst (Each 4) (same_Some Save k e) (of 4 2 Save _ refl refl (fibers_of.of_fiber W _ Save named refl refl refl refl refl refl) refl refl refl)
+  each (suc (suc (suc (suc (suc zero))))) k e = subst (Each 5) (same_Some Save k e) (of 5 2 Save _ refl refl (fibers_of.of_fiber W _ Save named refl refl refl refl refl refl) refl refl refl)
+  each (suc (suc (suc (suc (suc (suc zero)))))) k e = subst (Each 6) (same_Some Place k e) (of 6 3 Place _ refl refl (fibers_of.of_fiber W _ Place named refl refl refl refl refl refl) refl refl refl)
+  each (suc (suc (suc (suc (suc (suc (suc zero))))))) k e = subst (Each 7) (same_Some Restore k e) (of 7 0 Restore _ refl refl (fibers_of.of_fiber W _ Restore named refl refl refl refl refl refl) refl refl refl)
+  each (suc (suc (suc (suc (suc (suc (suc (suc zero)))))))) k e = subst (Each 8) (same_Some Restore k e) (of 8 0 Restore _ refl refl (fibers_of.of_fiber W _ Restore named refl refl refl refl refl refl) refl refl refl)
+  each (suc (suc (suc (suc (suc (suc (suc (suc (suc zero))))))))) k e = subst (Each 9) (same_Some Restore k e) (of 9 0 Restore _ refl refl (fibers_of.of_fiber W _ Restore named refl refl refl refl refl refl) refl refl refl)
+  each (suc (suc (suc (suc (suc (suc (suc (suc (suc (suc zero)))))))))) k e = subst (Each 10) (same_Some Receiver k e) (of 10 0 Receiver _ refl refl (fibers_of.of_fiber W _ Receiver named refl refl refl refl refl refl) refl refl refl)
   each (suc (suc (suc (suc (suc (suc (suc (suc (suc (suc (suc n))))))))))) k e = absurd (cc)

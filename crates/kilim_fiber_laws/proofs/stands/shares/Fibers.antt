@@ -14,15 +14,15 @@ use Rattle.kilim_program.specs.declared.names.MethodId.{MethodId}
 use Rattle.kilim_program.specs.declared.ty.Base.{Base}
 use Rattle.kilim_program.specs.declared.ty.Base.TheVariants as base
 use Rattle.kilim_program.specs.declared.ty.Ty.{Ty}
-use Rattle.kilim_program.specs.BuiltIn.{built_in_methods_in, class_id, class_type, exception_numbers, fiber_methods}
+use Rattle.kilim_program.specs.BuiltIn.{built_in_methods_in, class_id, class_type, fiber_methods}
 use Rattle.kilim_program.specs.Keeps.{Keeps}
 use Rattle.kilim_program.specs.Names.{class_at, class_from, class_name, is_empty, is_named_task, is_task, line_of, method_at}
 use Rattle.kilim_program.specs.Program.{Program}
-use Rattle.kilim_program.proofs.BuiltIns.{constructors_too}
+use Rattle.kilim_program.proofs.BuiltIns.{exceptions_too}
 use Rattle.kilim_program.specs.Same.{is_constructor}
 use Rattle.kilim_program.specs.Members.{named_class, named_type}
 use Rattle.kilim_program.specs.Members.{is_task_execute}
-use Rattle.kilim_run_machine.specs.Natives.{FiberMember, Pc, Down, Up, Save, Place, Restore, Receiver, OfFiber, is_built_in_constructor, is_handed_out, is_take, is_text_method, native_method, native_named, natives}
+use Rattle.kilim_run_machine.specs.Natives.{FiberMember, Pc, Down, Up, Save, Place, Restore, Receiver, OfFiber, is_built_in_constructor, is_handed_out, is_of_message, is_take, is_text_method, native_method, native_named, natives, takes_object}
 use Rattle.kilim_lemmas.proofs.Lists.{get_right}
 use Rattle.kilim_type_sound.proofs.BuiltInMembers.{built_in_at, none_built_in}
 use Rattle.kilim_type_laws.proofs.members.ValueClasses.{all_of_at, type_is}
@@ -53,40 +53,46 @@ module _ (W : Program) where
   no_take m e b =
       ap (λ (z : Bool). (z && bytes_eq (class_name W m.owner) (codes "kilim/Sys")) && bytes_eq m.name (codes "take")) b ∙ ap (λ (z : List ℕ). (true && bytes_eq z (codes "kilim/Sys")) && bytes_eq m.name (codes "take")) e
 
-  pub handed : (m : Method) → class_name W m.owner ≡ codes "kilim/Fiber" → m.built_in ≡ true → is_constructor m ≡ false → is_handed_out W m ≡ true
-  handed m e b c =
-      ap (λ (z : Bool). z && not (is_built_in_constructor m || (is_text_method W m || is_take W m))) b
-      ∙ ap (λ (z : Bool). true && not (z || (is_text_method W m || is_take W m))) (ap (λ (z : Bool). z && (bytes_eq m.name (codes "<init>") && is_empty m.params)) b ∙ ap (λ (z : Bool). true && (z && is_empty m.params)) c)
-      ∙ ap (λ (z : Bool). true && not (false || (z || is_take W m))) (no_text m e b) ∙ ap (λ (z : Bool). true && not (false || (false || z))) (no_take m e b)
+  no_message : (m : Method) → m.built_in ≡ true → is_constructor m ≡ false → bytes_eq m.name (codes "getMessage") ≡ false → is_of_message m ≡ false
+  no_message m b c g =
+      ap (λ (z : Bool). (z && (bytes_eq m.name (codes "<init>") && takes_object m.params)) || (z && bytes_eq m.name (codes "getMessage"))) b
+      ∙ ap (λ (z : Bool). (true && (z && takes_object m.params)) || (true && bytes_eq m.name (codes "getMessage"))) c ∙ g
 
-  pub native_is : (m : Method) (k : FiberMember) → class_name W m.owner ≡ codes "kilim/Fiber" → native_named natives (codes "kilim/Fiber") m.name ≡ Some (OfFiber k) → m.built_in ≡ true → is_constructor m ≡ false → native_method W m ≡ Some (OfFiber k)
-  native_is m k e n b c = named_native (class_name W m.owner) m (handed m e b c) ∙ ap (λ (z : List ℕ). native_named natives z m.name) e ∙ n
+  pub handed : (m : Method) → class_name W m.owner ≡ codes "kilim/Fiber" → m.built_in ≡ true → is_constructor m ≡ false → bytes_eq m.name (codes "getMessage") ≡ false → is_handed_out W m ≡ true
+  handed m e b c g =
+      ap (λ (z : Bool). z && not (is_built_in_constructor m || (is_text_method W m || (is_take W m || is_of_message m)))) b
+      ∙ ap (λ (z : Bool). true && not (z || (is_text_method W m || (is_take W m || is_of_message m)))) (ap (λ (z : Bool). z && (bytes_eq m.name (codes "<init>") && is_empty m.params)) b ∙ ap (λ (z : Bool). true && (z && is_empty m.params)) c)
+      ∙ ap (λ (z : Bool). true && not (false || (z || (is_take W m || is_of_message m)))) (no_text m e b) ∙ ap (λ (z : Bool). true && not (false || (false || (z || is_of_message m)))) (no_take m e b)
+      ∙ ap (λ (z : Bool). true && not (false || (false || (false || z)))) (no_message m b c g)
 
-  abbrev pub of_fiber : (m : Method) (k : FiberMember) → class_name W m.owner ≡ codes "kilim/Fiber" → native_named natives (codes "kilim/Fiber") m.name ≡ Some (OfFiber k) → m.built_in ≡ true → m.is_private ≡ false → is_constructor m ≡ false → m.max_locals ≡ 0 → FitMember W m
-  of_fiber m k e n b p c l = record { member = k; native = native_is m k e n b c; built_in = b; is_private = p; plain = c; locals = l; text = no_text m e b; handed_out = handed m e b c }
+  pub native_is : (m : Method) (k : FiberMember) → class_name W m.owner ≡ codes "kilim/Fiber" → native_named natives (codes "kilim/Fiber") m.name ≡ Some (OfFiber k) → m.built_in ≡ true → is_constructor m ≡ false → bytes_eq m.name (codes "getMessage") ≡ false → native_method W m ≡ Some (OfFiber k)
+  native_is m k e n b c g = named_native (class_name W m.owner) m (handed m e b c g) ∙ ap (λ (z : List ℕ). native_named natives z m.name) e ∙ n
+
+  abbrev pub of_fiber : (m : Method) (k : FiberMember) → class_name W m.owner ≡ codes "kilim/Fiber" → native_named natives (codes "kilim/Fiber") m.name ≡ Some (OfFiber k) → m.built_in ≡ true → m.is_private ≡ false → is_constructor m ≡ false → bytes_eq m.name (codes "getMessage") ≡ false → m.max_locals ≡ 0 → FitMember W m
+  of_fiber m k e n b p c g l = record { member = k; native = native_is m k e n b c g; built_in = b; is_private = p; plain = c; locals = l; text = no_text m e b; handed_out = handed m e b c g }
 
   pub all_members : (n : ℕ) → class_name W (class_id (n + 18)) ≡ codes "kilim/Fiber" → AllByRecursion (FitMember W) (fiber_methods Woven n)
   all_members n e = (
-    of_fiber _ Pc e refl refl refl refl refl,
+    of_fiber _ Pc e refl refl refl refl refl refl,
     (
-      of_fiber _ Down e refl refl refl refl refl,
+      of_fiber _ Down e refl refl refl refl refl refl,
       (
-        of_fiber _ Up e refl refl refl refl refl,
+        of_fiber _ Up e refl refl refl refl refl refl,
         (
-          of_fiber _ Save e refl refl refl refl refl,
+          of_fiber _ Save e refl refl refl refl refl refl,
           (
-            of_fiber _ Save e refl refl refl refl refl,
+            of_fiber _ Save e refl refl refl refl refl refl,
             (
-              of_fiber _ Save e refl refl refl refl refl,
+              of_fiber _ Save e refl refl refl refl refl refl,
               (
-                of_fiber _ Place e refl refl refl refl refl,
+                of_fiber _ Place e refl refl refl refl refl refl,
                 (
-                  of_fiber _ Restore e refl refl refl refl refl,
+                  of_fiber _ Restore e refl refl refl refl refl refl,
                   (
-                    of_fiber _ Restore e refl refl refl refl refl,
+                    of_fiber _ Restore e refl refl refl refl refl refl,
                     (
-                      of_fiber _ Restore e refl refl refl refl refl,
-                      (of_fiber _ Receiver e refl refl refl refl refl, tt),
+                      of_fiber _ Restore e refl refl refl refl refl refl,
+                      (of_fiber _ Receiver e refl refl refl refl refl refl, tt),
                     ),
                   ),
                 ),
@@ -173,7 +179,7 @@ module _ (P W : Program) (counted : List (List Bool)) (keeps : Keeps P) (plainly
                           (λ e. absurd (false≢true e)),
                           (
                             (λ e. absurd (false≢true e)),
-                            ((λ e. absurd (false≢true e)), ((λ e. absurd (false≢true e)), ((λ e. absurd (false≢true e)), ((λ e. absurd (false≢true e)), ((λ e. absurd (false≢true e)), ((λ e. absurd (false≢true e)), ((λ e. absurd (false≢true e)), constructors_too ExecutesAs n exception_numbers [] (λ c e. absurd (false≢true e)) tt))))))),
+                            ((λ e. absurd (false≢true e)), ((λ e. absurd (false≢true e)), ((λ e. absurd (false≢true e)), ((λ e. absurd (false≢true e)), ((λ e. absurd (false≢true e)), ((λ e. absurd (false≢true e)), ((λ e. absurd (false≢true e)), exceptions_too ExecutesAs n [] (λ c e. absurd (false≢true e)) (λ c e. absurd (false≢true e)) (λ e. absurd (false≢true e)) tt))))))),
                           ),
                         ),
                       ),

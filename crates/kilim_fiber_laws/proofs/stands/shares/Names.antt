@@ -24,7 +24,7 @@ use Rattle.kilim_program.specs.Program.{Program}
 use Rattle.kilim_program.specs.Same.{answers, is_constructor, selected, argument_slots}
 use Rattle.kilim_run_machine.specs.Does.{above_of, chosen, chosen_by, chosen_on, special, superclass_of}
 use Rattle.kilim_program.specs.Members.{named_class, named_type}
-use Rattle.kilim_run_machine.specs.Natives.{is_built_in_constructor, is_built_in_of, is_handed_out, is_take, is_text_method, native_method, native_named, natives}
+use Rattle.kilim_run_machine.specs.Natives.{is_built_in_constructor, is_built_in_of, is_get_message, is_handed_out, is_message_constructor, is_of_message, is_take, is_text_method, native_method, native_named, natives, takes_object}
 use Rattle.kilim_type_spec.specs.Step.{is_above, is_superclass_method, special_fits, superclass_at}
 use Rattle.kilim_type_spec.specs.Step as step
 use Rattle.kilim_lemmas.proofs.Lists.{get_right}
@@ -157,10 +157,14 @@ module _ (P W : Program) (counted : List (List Bool)) (keeps : Keeps P) (plainly
   take_same id a b at l e =
       ap (λ (z : Bool). z && bytes_eq b.name (codes "take")) (of_same id a b (codes "kilim/Sys") at l e) ∙ ap (λ (n : List ℕ). is_built_in_of P (codes "kilim/Sys") a && bytes_eq n (codes "take")) l.name
 
+  -- a built-in constructor that has such parameters
+  abbrev Constructs : (List Ty → Bool) → Method → Bool
+  Constructs test m = m.built_in && (bytes_eq m.name (codes "<init>") && test m.params)
+
   -- a pausable method is no constructor, and another one has the same parameters
-  constructor_same : (id : MethodId) (a b : Method) → method_at P id ≡ Some a → Like P a b → b.built_in ≡ a.built_in → is_built_in_constructor b ≡ is_built_in_constructor a
+  constructs_same : (test : List Ty → Bool) (id : MethodId) (a b : Method) → method_at P id ≡ Some a → Like P a b → b.built_in ≡ a.built_in → Constructs test b ≡ Constructs test a
   unfolding method_is_sound
-  constructor_same id a b at l e = by a.pausable refl
+  constructs_same test id a b at l e = by a.pausable refl
     where
       not_both : (x y : Bool) → not (x && y) ≡ true → y ≡ true → x ≡ false
       not_both true true e h = absurd (false≢true e)
@@ -177,22 +181,36 @@ module _ (P W : Program) (counted : List (List Bool)) (keeps : Keeps P) (plainly
           let t = and_parts (eqb (length a.qualifiers) (length a.params)) _ s in
           not_both (is_constructor a) a.pausable (and_parts (nat_le (argument_slots a) 255) _ t.1).1 is
 
-      by : (z : Bool) → a.pausable ≡ z → is_built_in_constructor b ≡ is_built_in_constructor a
+      by : (z : Bool) → a.pausable ≡ z → Constructs test b ≡ Constructs test a
       by true is =
           let n : bytes_eq b.name (codes "<init>") ≡ false = ap (λ (x : List ℕ). bytes_eq x (codes "<init>")) l.name ∙ no_constructor is in
-          ap (λ (z : Bool). b.built_in && (z && is_empty b.params)) n ∙ none b.built_in (is_empty b.params)
-          ∙ sym (ap (λ (z : Bool). a.built_in && (z && is_empty a.params)) (no_constructor is) ∙ none a.built_in (is_empty a.params))
+          ap (λ (z : Bool). b.built_in && (z && test b.params)) n ∙ none b.built_in (test b.params)
+          ∙ sym (ap (λ (z : Bool). a.built_in && (z && test a.params)) (no_constructor is) ∙ none a.built_in (test a.params))
       by false is =
-          ap (λ (z : Bool). z && (bytes_eq b.name (codes "<init>") && is_empty b.params)) e
-          ∙ ap (λ (x : List ℕ). a.built_in && (bytes_eq x (codes "<init>") && is_empty b.params)) l.name
-          ∙ ap (λ (tys : List Ty). a.built_in && (bytes_eq a.name (codes "<init>") && is_empty tys)) (l.params ∙ ap (λ (z : Bool). a.params ++ fibers P z) is ∙ append-nil a.params)
+          ap (λ (z : Bool). z && (bytes_eq b.name (codes "<init>") && test b.params)) e
+          ∙ ap (λ (x : List ℕ). a.built_in && (bytes_eq x (codes "<init>") && test b.params)) l.name
+          ∙ ap (λ (tys : List Ty). a.built_in && (bytes_eq a.name (codes "<init>") && test tys)) (l.params ∙ ap (λ (z : Bool). a.params ++ fibers P z) is ∙ append-nil a.params)
+
+  constructor_same : (id : MethodId) (a b : Method) → method_at P id ≡ Some a → Like P a b → b.built_in ≡ a.built_in → is_built_in_constructor b ≡ is_built_in_constructor a
+  constructor_same id a b at l e = constructs_same is_empty id a b at l e
+
+  -- the message of an exception
+  pub keeps_same : (id : MethodId) (a b : Method) → method_at P id ≡ Some a → Like P a b → b.built_in ≡ a.built_in → is_message_constructor b ≡ is_message_constructor a
+  keeps_same id a b at l e = constructs_same takes_object id a b at l e
+
+  pub gives_same : (a b : Method) → Like P a b → b.built_in ≡ a.built_in → is_get_message b ≡ is_get_message a
+  gives_same a b l e = ap (λ (z : Bool). z && bytes_eq b.name (codes "getMessage")) e ∙ ap (λ (x : List ℕ). a.built_in && bytes_eq x (codes "getMessage")) l.name
+
+  pub of_message_same : (id : MethodId) (a b : Method) → method_at P id ≡ Some a → Like P a b → b.built_in ≡ a.built_in → is_of_message b ≡ is_of_message a
+  of_message_same id a b at l e = ap (λ (z : Bool). z || is_get_message b) (keeps_same id a b at l e) ∙ ap (λ (z : Bool). is_message_constructor a || z) (gives_same a b l e)
 
   handed_in_both : (id : MethodId) (a b : Method) → method_at P id ≡ Some a → Like P a b → b.built_in ≡ a.built_in → is_handed_out W b ≡ is_handed_out P a
   handed_in_both id a b at l e =
-      ap (λ (z : Bool). z && not (is_built_in_constructor b || (is_text_method W b || is_take W b))) e
-      ∙ ap (λ (z : Bool). a.built_in && not (z || (is_text_method W b || is_take W b))) (constructor_same id a b at l e)
-      ∙ ap (λ (z : Bool). a.built_in && not (is_built_in_constructor a || (z || is_take W b))) (text_same id a b at l e)
-      ∙ ap (λ (z : Bool). a.built_in && not (is_built_in_constructor a || (is_text_method P a || z))) (take_same id a b at l e)
+      ap (λ (z : Bool). z && not (is_built_in_constructor b || (is_text_method W b || (is_take W b || is_of_message b)))) e
+      ∙ ap (λ (z : Bool). a.built_in && not (z || (is_text_method W b || (is_take W b || is_of_message b)))) (constructor_same id a b at l e)
+      ∙ ap (λ (z : Bool). a.built_in && not (is_built_in_constructor a || (z || (is_take W b || is_of_message b)))) (text_same id a b at l e)
+      ∙ ap (λ (z : Bool). a.built_in && not (is_built_in_constructor a || (is_text_method P a || (z || is_of_message b)))) (take_same id a b at l e)
+      ∙ ap (λ (z : Bool). a.built_in && not (is_built_in_constructor a || (is_text_method P a || (is_take P a || z)))) (of_message_same id a b at l e)
 
   pub native_same : (id : MethodId) (a b : Method) → method_at P id ≡ Some a → Like P a b → b.built_in ≡ a.built_in → native_method W b ≡ native_method P a
   native_same id a b at l e =
@@ -203,13 +221,19 @@ module _ (P W : Program) (counted : List (List Bool)) (keeps : Keeps P) (plainly
   -- of a method that stays
   pub handed_same : (id : MethodId) (a : Method) → method_at P id ≡ Some a → Like P a a → is_handed_out W a ≡ is_handed_out P a
   handed_same id a at l =
-      ap (λ (z : Bool). a.built_in && not (is_built_in_constructor a || (z || is_take W a))) (text_same id a a at l refl)
-      ∙ ap (λ (z : Bool). a.built_in && not (is_built_in_constructor a || (is_text_method P a || z))) (take_same id a a at l refl)
+      ap (λ (z : Bool). a.built_in && not (is_built_in_constructor a || (z || (is_take W a || is_of_message a)))) (text_same id a a at l refl)
+      ∙ ap (λ (z : Bool). a.built_in && not (is_built_in_constructor a || (is_text_method P a || (z || is_of_message a)))) (take_same id a a at l refl)
 
   -- ---- types
 
+  pub class_same : (name : List ℕ) → bytes_eq (codes "kilim/Fiber") name ≡ false → class_named W name ≡ class_named P name
+  class_same name e = ap (λ (cs : List Class). class_from cs name 0) grown ∙ named_front P.classes F name 0 e
+
   pub named_same : (name : List ℕ) → bytes_eq (codes "kilim/Fiber") name ≡ false → named_type W name ≡ named_type P name
-  named_same name e = ap named_class (ap (λ (cs : List Class). class_from cs name 0) grown ∙ named_front P.classes F name 0 e)
+  named_same name e = ap named_class (class_same name e)
+
+  pub class_old : (name : List ℕ) (c : ClassId) → class_named P name ≡ Some c → c.0 < length P.classes
+  class_old name c e = let a = named_below P.classes name 0 c e in omega (arith, a)
 
   pub named_old : (name : List ℕ) (ty : Ty) → named_type P name ≡ Some ty → is_old_base P ty.base
   named_old name ty e = by (class_named P name) refl e

@@ -1,9 +1,9 @@
 -- A program and its woven form share what the rows rest on.
 use Rattle.std.proofs.Common.{◌≡◌, ◌⊎◌, inl, inr, ℕ, zero, suc, ◌<◌, Bool, true, false, eqb, not, ◌&&◌, ◌||◌, List, [], ◌∷◌, ◌++◌, map, length, Option, Some, None, refl, sym, ap, subst, ◌∙◌}
 use Rattle.std.specs.Prelude.{slice_get, codes, if◌then◌else◌, reverse, filter}
-use Rattle.std.specs.List.{flat_map, list_all, list_any}
+use Rattle.std.specs.List.{flat_map}
 use Rattle.std.specs.Str.{bytes_eq}
-use Rattle.std.proofs.lemmas.Bool.{and_from, and_parts, false≢true}
+use Rattle.std.proofs.lemmas.Bool.{and_parts, false≢true}
 use Rattle.std.proofs.lemmas.Option.{same_Some, slice_get_within}
 use Rattle.kilim_program.specs.declared.class.Class.{Class}
 use Rattle.kilim_program.specs.declared.class.Field.{Field}
@@ -23,18 +23,17 @@ use Rattle.kilim_program.specs.Lengths.{fetched}
 use Rattle.kilim_program.specs.Names.{◌>>=◌, class_name, fields_of, first_that, is_empty, is_task, line_of, method_at}
 use Rattle.kilim_program.specs.Program.{Program}
 use Rattle.kilim_program.specs.Same.{argument_slots, is_constructor, selected}
-use Rattle.kilim_run_machine.specs.Does.{does, is_mailbox}
+use Rattle.kilim_run_machine.specs.Does.{chosen, does, is_mailbox, special}
 use Rattle.kilim_run_machine.specs.Effect.{Effect, Calls, Asks}
 use Rattle.kilim_run_state.specs.Machine.{Objects}
 use Rattle.kilim_program.specs.Members.{execute_of, is_fit_main, is_instance_field, is_task_execute, object_fields}
 use Rattle.kilim_run_machine.specs.Moves.{slots_in}
-use Rattle.kilim_run_machine.specs.Natives.{FiberMember, Native, OfFiber, is_built_in_constructor, is_handed_out, is_take, is_text_method, native_method, native_of}
+use Rattle.kilim_run_machine.specs.Natives.{FiberMember, Native, OfFiber, is_built_in_constructor, is_handed_out, is_of_message, is_take, is_text_method, native_method, native_of, takes_object}
 use Rattle.kilim_run_state.specs.Objects.{first_field, first_value, new_object}
 use Rattle.kilim_run_model.specs.State.{Setting}
 use Rattle.kilim_type_spec.specs.Step.{may_name, special_fits}
 use Rattle.kilim_type_spec.specs.Typed.{IsWellTyped}
-use Rattle.kilim_weave_spec.specs.Form.{AllWoven, IsWoven, WovenForm, first_class, has_calls, woven_as}
-use Rattle.kilim_run_machine.specs.Raising.{NoTables}
+use Rattle.kilim_weave_spec.specs.Form.{AllWoven, IsWoven, WovenForm, first_class, has_calls}
 use Rattle.kilim_weave_spec.specs.Woven.{fiber_ty, if_there, pausable_callee}
 use Rattle.kilim_weave_laws.proofs.woven_programs.Methods.{Like, fibers, like}
 use Rattle.kilim_weave_laws.proofs.woven_programs.Theorem as theorem
@@ -42,12 +41,14 @@ use Rattle.kilim_weave_laws.proofs.woven_programs.kinds.Lines as lines
 use Rattle.kilim_fiber_spec.specs.Fibers.{as_member, member_of}
 use Rattle.kilim_fiber_spec.specs.Form.{is_pausable}
 use Rattle.kilim_fiber_spec.specs.Rows.{IsClean}
-use Rattle.kilim_fiber_spec.specs.Serves.{is_pausing_native}
+use Rattle.kilim_fiber_spec.specs.Serves.{CatchesAlike, is_pausing_native}
 use Rattle.kilim_fiber_spec.specs.Thread.{code_in, fetch, own_in, own_of}
-use Rattle.kilim_fiber_spec.specs.alike.Shares.{Agree, Changed, PlainCallee, SharesPauses, SharesRows, named}
+use Rattle.kilim_fiber_spec.specs.alike.Shares.{Agree, AlikeBuiltIn, Changed, PlainCallee, SharesPauses, SharesRows, named}
+use Rattle.kilim_fiber_spec.proofs.alike.Handed.{asks_handed}
 use Rattle.kilim_fiber_spec.proofs.alike.Hands.{callee_is}
 use Rattle.kilim_fiber_laws.proofs.stands.shares.Bodies as code
 use Rattle.kilim_fiber_laws.proofs.stands.shares.Bodies.{AllCalled, FitNative}
+use Rattle.kilim_fiber_laws.proofs.stands.shares.Catching as catching
 use Rattle.kilim_fiber_laws.proofs.stands.shares.Fibers as fibers_of
 use Rattle.kilim_fiber_laws.proofs.stands.shares.Names as names
 use Rattle.kilim_fiber_laws.proofs.stands.shares.Names.{Twin}
@@ -77,24 +78,6 @@ module _ (set : Setting) (W : Program) (counted : List (List Bool)) (keeps : Kee
 
   abbrev twin : (id : MethodId) (a : Method) → method_at P id ≡ Some a → Twin P W id a
   twin id a at = names.twin P W counted keeps plainly form id a at
-
-  -- ---- no method has an exception table
-
-  none_as : (z calls : Bool) (a b : Method) (marks : List Bool) → is_empty a.handlers ≡ true → woven_as z calls P a b marks → is_empty b.handlers ≡ true
-  none_as false calls a b marks none w = ap (λ (m : Method). is_empty m.handlers) w.0 ∙ none
-  none_as true false a b marks none w = ap (λ (m : Method). is_empty m.handlers) w.0 ∙ none
-  none_as true true a b marks none w = ap (λ (m : Method). is_empty m.handlers) w.4.method ∙ none
-
-  none_in : (ms ws : List Method) (cs : List (List Bool)) → AllWoven P ms ws cs → list_all (λ (m : Method). is_empty m.handlers) ms ≡ true → list_all (λ (m : Method). is_empty m.handlers) ws ≡ true
-  none_in [] ws cs w none = ap (list_all (λ (m : Method). is_empty m.handlers)) w.0
-  none_in (m ∷ ms) [] cs w none = absurd w
-  none_in (m ∷ ms) (u ∷ ws) [] w none = absurd w
-  none_in (m ∷ ms) (u ∷ ws) (c ∷ cs) w none =
-      let both = and_parts (is_empty m.handlers) (list_all (λ (z : Method). is_empty z.handlers) ms) none in
-      and_from (is_empty u.handlers) _ (none_as m.pausable (has_calls P m) m u c both.0 w.0) (none_in ms ws cs w.1 both.1)
-
-  pub none_woven : NoTables W
-  none_woven = none_in P.methods W.methods counted form.methods keeps.handlers
 
   -- the method in which an instruction stands
   there_of : (m : MethodId) (p : ℕ) (found : _) → fetch P m p ≡ Some found → (u : Method) × (method_at P m ≡ Some u) × (fetched u.code u.code_length p ≡ Some found)
@@ -173,8 +156,8 @@ module _ (set : Setting) (W : Program) (counted : List (List Bool)) (keeps : Kee
 
   -- ---- calls that aren't pausable
 
-  built_in : (id : MethodId) (a : Method) → method_at P id ≡ Some a → (b : Method) × (method_at W id ≡ Some b) × (b.built_in ≡ a.built_in)
-  built_in id a at = let t = twin id a at in (t.method, t.there, t.built_in)
+  built_in : (id : MethodId) (a : Method) → method_at P id ≡ Some a → (b : Method) × (method_at W id ≡ Some b) × AlikeBuiltIn b a
+  built_in id a at = let t = twin id a at in (t.method, t.there, (t.built_in, names.keeps_same P W counted keeps plainly form id a t.method at t.like t.built_in, names.gives_same P W counted keeps plainly form a t.method t.like t.built_in))
 
   stays : (id : MethodId) (a : Method) → method_at P id ≡ Some a → a.pausable ≡ false → (method_at W id ≡ Some a) × Like P a a
   stays id a at e = let t = twin id a at in let s = t.stays e in (t.there ∙ ap (λ (z : Method). Some z) s, subst (λ (z : Method). Like P a z) s t.like)
@@ -211,7 +194,7 @@ module _ (set : Setting) (W : Program) (counted : List (List Bool)) (keeps : Kee
           agrees_special = λ z. refl;
           selected = names.chosen_there P W counted keeps plainly form k n.0 n.1;
           specials = λ z. absurd (not_special k k z);
-          built_in = λ j b e. (b, e, refl);
+          built_in = λ j b e. (b, e, (refl, refl, refl));
         },
         record {
           there = n.1;
@@ -244,7 +227,7 @@ module _ (set : Setting) (W : Program) (counted : List (List Bool)) (keeps : Kee
           agrees_special = λ z. refl;
           selected = names.chosen_there P W counted keeps plainly form k n.0 n.1;
           specials = λ z. (q.method, q.there);
-          built_in = λ j b e. (b, e, refl);
+          built_in = λ j b e. (b, e, (refl, refl, refl));
         },
         record {
           there = n.1;
@@ -276,7 +259,7 @@ module _ (set : Setting) (W : Program) (counted : List (List Bool)) (keeps : Kee
           agrees_special = λ z. refl;
           selected = names.chosen_there P W counted keeps plainly form k n.0 n.1;
           specials = λ z. absurd (not_special k k z);
-          built_in = λ j b e. (b, e, refl);
+          built_in = λ j b e. (b, e, (refl, refl, refl));
         },
         record {
           there = n.1;
@@ -396,8 +379,16 @@ module _ (set : Setting) (W : Program) (counted : List (List Bool)) (keeps : Kee
       by true e = let f = code.fit P keeps plainly id a at e in (f.text is, f.handed_out is ∙ sym e)
       by false e = (
         ap (λ (z : Bool). z && bytes_eq (class_name P a.owner) (codes "java/lang/String")) e,
-        ap (λ (z : Bool). z && not (is_built_in_constructor a || (is_text_method P a || is_take P a))) e ∙ sym e,
+        ap (λ (z : Bool). z && not (is_built_in_constructor a || (is_text_method P a || (is_take P a || is_of_message a)))) e ∙ sym e,
       )
+
+  -- nor is it of the message of an exception
+  no_message : (id : MethodId) (a : Method) → method_at P id ≡ Some a → a.pausable ≡ true → is_of_message a ≡ false
+  no_message id a at is = by a.built_in refl
+    where
+      by : (z : Bool) → a.built_in ≡ z → is_of_message a ≡ false
+      by true e = asks_handed (class_name P a.owner) a ((sound id a at is).2 ∙ e)
+      by false e = ap (λ (z : Bool). (z && (bytes_eq a.name (codes "<init>") && takes_object a.params)) || (z && bytes_eq a.name (codes "getMessage"))) e
 
   changed : (id : MethodId) (a : Method) → method_at P id ≡ Some a → a.pausable ≡ true → Changed P W (fiber_ty P) id a
   changed id a at is =
@@ -409,6 +400,7 @@ module _ (set : Setting) (W : Program) (counted : List (List Bool)) (keeps : Kee
       let still : is_built_in_constructor t.method ≡ false = falls (is_constructor t.method) (ap (λ (n : List ℕ). bytes_eq n (codes "<init>")) l.name ∙ k) t.method.built_in (is_empty t.method.params) in
       let text = names.text_same P W counted keeps plainly form id a t.method at l t.built_in in
       let take = names.take_same P W counted keeps plainly form id a t.method at l t.built_in in
+      let message = names.of_message_same P W counted keeps plainly form id a t.method at l t.built_in in
       record {
         method = t.method;
         there = t.there;
@@ -420,12 +412,15 @@ module _ (set : Setting) (W : Program) (counted : List (List Bool)) (keeps : Kee
         still_no_text = text ∙ s.1;
         handed_out = s.2;
         still_handed_out =
-            ap (λ (z : Bool). z && not (is_built_in_constructor t.method || (is_text_method W t.method || is_take W t.method))) t.built_in
-            ∙ ap (λ (z : Bool). a.built_in && not (z || (is_text_method W t.method || is_take W t.method))) (still ∙ sym s.0)
-            ∙ ap (λ (z : Bool). a.built_in && not (is_built_in_constructor a || (z || is_take W t.method))) text
-            ∙ ap (λ (z : Bool). a.built_in && not (is_built_in_constructor a || (is_text_method P a || z))) take ∙ s.2 ∙ sym t.built_in;
+            ap (λ (z : Bool). z && not (is_built_in_constructor t.method || (is_text_method W t.method || (is_take W t.method || is_of_message t.method)))) t.built_in
+            ∙ ap (λ (z : Bool). a.built_in && not (z || (is_text_method W t.method || (is_take W t.method || is_of_message t.method)))) (still ∙ sym s.0)
+            ∙ ap (λ (z : Bool). a.built_in && not (is_built_in_constructor a || (z || (is_take W t.method || is_of_message t.method)))) text
+            ∙ ap (λ (z : Bool). a.built_in && not (is_built_in_constructor a || (is_text_method P a || (z || is_of_message t.method)))) take
+            ∙ ap (λ (z : Bool). a.built_in && not (is_built_in_constructor a || (is_text_method P a || (is_take P a || z)))) message ∙ s.2 ∙ sym t.built_in;
         agrees = λ ty o f. names.chosen_same P W counted keeps plainly form id a t.method at l k ty f;
-        selected = names.chosen_there P W counted keeps plainly form id a at;
+        selected = λ ty f.
+            let x = names.chosen_there P W counted keeps plainly form id a at ty in
+            (x.0, x.1, no_message (chosen P a id ty) x.0 x.1 (names.chosen_pauses P W counted keeps plainly form id a at k ty f x.0 x.1 ∙ is));
       }
 
   pausing_natives : (m : MethodId) (p : ℕ) (i : Instr) (callee : Method) (to : ℕ) (l s s2 args : List Value) (heap : Objects) (c : MethodId) → fetch P m p ≡ Some (i, to) → pausable_callee P i ≡ Some callee → IsClean P i s heap → does P (own_of P m) i to l s heap ≡ Asks c args to l s2 heap
@@ -443,6 +438,22 @@ module _ (set : Setting) (W : Program) (counted : List (List Bool)) (keeps : Kee
       let g = subst (λ (z : Effect). AllCalled (Pauses a.0.pausable) z) e (called m p to (instr.Invokestatic k) k a.0 l s heap h refl a.1 clean) in
       let r = asked c g.0 g.1 in (r.0, λ n x. r.1 n x ∙ g.2 ∙ a.2)
   pausing_natives m p i callee to l s s2 args heap c h hp clean e = absurd (none_is callee hp)
+
+  pausing_calls : (m : MethodId) (p : ℕ) (i : Instr) (callee : Method) (to : ℕ) (l s s2 args : List Value) (heap : Objects) (c : MethodId) → fetch P m p ≡ Some (i, to) → pausable_callee P i ≡ Some callee → IsClean P i s heap → does P (own_of P m) i to l s heap ≡ Calls c args to l s2 heap
+      → is_pausable P c ≡ true
+  pausing_calls m p i callee to l s s2 args heap c h hp clean e = by i refl hp
+    where
+      of : (k : MethodId) → named i ≡ Some k → pausable_callee P i ≡ if_there (method_at P k) → is_pausable P c ≡ true
+      of k hn same =
+          let a = callee_is P k callee (sym same ∙ hp) in
+          let g = subst (λ (z : Effect). AllCalled (Pauses a.0.pausable) z) e (called m p to i k a.0 l s heap h hn a.1 clean) in
+          ap (λ (o : Option Method). elim o [ None ↦ false | Some z ↦ z.pausable ]) g.1 ∙ g.2 ∙ a.2
+
+      by : (j : Instr) → i ≡ j → pausable_callee P j ≡ Some callee → is_pausable P c ≡ true
+      by (instr.Invokevirtual k) is hj = of k (ap named is) (ap (pausable_callee P) is)
+      by (instr.Invokespecial k) is hj = of k (ap named is) (ap (pausable_callee P) is)
+      by (instr.Invokestatic k) is hj = of k (ap named is) (ap (pausable_callee P) is)
+      by j is hj = absurd (none_is callee hj)
 
   same_natives : (c : MethodId) → member_of W c ≡ None → native_of W c ≡ native_of P c
   same_natives c none = by (method_at P c) refl
@@ -476,6 +487,18 @@ module _ (set : Setting) (W : Program) (counted : List (List Bool)) (keeps : Kee
       by (Some m) e =
           let plain : m.pausable ≡ false = sym (ap (λ (o : Option Method). elim o [ None ↦ false | Some z ↦ z.pausable ]) e) ∙ none in
           ap slots_in ((stays c m e plain).0 ∙ sym e)
+
+  -- ---- exceptions
+
+  catches : CatchesAlike P W
+  catches = record {
+    plain = (catching.tables P W counted keeps plainly form).plain;
+    paused = catching.paused P W counted keeps plainly form;
+    added = catching.added P W counted keeps plainly form;
+    lines = (catching.tables P W counted keeps plainly form).lines;
+    raised = catching.raised P W counted keeps plainly form;
+    made = λ index why c e. let old = catching.raised_old P W counted keeps plainly form index why c e in (old, object_same c old);
+  }
 
   -- ---- `execute`
 
@@ -528,54 +551,51 @@ module _ (set : Setting) (W : Program) (counted : List (List Bool)) (keeps : Kee
       })
       by false e same (inr f) = inr (ap (λ (t : Bool). if t then Some x else first_that is_task_execute ms) e ∙ f.0, ap (λ (t : Bool). if t then Some w else first_that is_task_execute ws) (same ∙ e) ∙ f.1)
 
-  module _ (main : is_fit_main P set.main ≡ true) where
-    task : is_task P set.main ≡ true
-    task = (and_parts (is_task P set.main) _ (and_parts _ _ main).1).0
-
+  module _ (class : ClassId) (task : is_task P class ≡ true) where
     -- what both find
     record Executes : Type 0 where
       found : MethodId
       method : Method
-      in_p : execute_of P set.main ≡ Some found
-      in_w : execute_of W set.main ≡ Some found
+      in_p : execute_of P class ≡ Some found
+      in_w : execute_of W class ≡ Some found
       there : method_at P found ≡ Some method
       pausable : method.pausable ≡ true
 
-    executes : Executes ⊎ ((execute_of P set.main ≡ None) × (execute_of W set.main ≡ None))
+    executes : Executes ⊎ ((execute_of P class ≡ None) × (execute_of W class ≡ None))
     executes = by (firsts P.methods W.methods counted form.methods)
       where
         run : Program → Option Method → Option MethodId
-        run R o = o >>= selected R set.main
+        run R o = o >>= selected R class
 
-        by : First P.methods W.methods 0 ⊎ ((first_that is_task_execute P.methods ≡ None) × (first_that is_task_execute W.methods ≡ None)) → Executes ⊎ ((execute_of P set.main ≡ None) × (execute_of W set.main ≡ None))
-        by (inr n) = inr (ap (λ (o : Option Method). o >>= selected P set.main) n.0, ap (λ (o : Option Method). o >>= selected W set.main) n.1)
+        by : First P.methods W.methods 0 ⊎ ((first_that is_task_execute P.methods ≡ None) × (first_that is_task_execute W.methods ≡ None)) → Executes ⊎ ((execute_of P class ≡ None) × (execute_of W class ≡ None))
+        by (inr n) = inr (ap (λ (o : Option Method). o >>= selected P class) n.0, ap (λ (o : Option Method). o >>= selected W class) n.1)
         by (inl f) =
             let id : MethodId = record { 0 = f.place } in
             let x = fibers_of.execute_is P W counted keeps plainly form (record { 0 = f.place }) f.old f.at f.passes in
             let t = twin (record { 0 = f.place }) f.old f.at in
             let same : t.method ≡ f.new = same_Some t.method f.new (sym t.there ∙ f.there) in
-            let s = names.selected_same P W counted keeps plainly form (record { 0 = f.place }) f.old f.new f.at (subst (λ (z : Method). Like P f.old z) same t.like) x.public x.plain set.main
-            (fibers_of.task_line P W counted keeps plainly form set.main f.old x task) in
+            let s = names.selected_same P W counted keeps plainly form (record { 0 = f.place }) f.old f.new f.at (subst (λ (z : Method). Like P f.old z) same t.like) x.public x.plain class
+            (fibers_of.task_line P W counted keeps plainly form class f.old x task) in
             inl (record {
               found = s.0;
               method = s.3.method;
-              in_p = ap (λ (o : Option Method). o >>= selected P set.main) f.in_p ∙ s.2;
-              in_w = ap (λ (o : Option Method). o >>= selected W set.main) f.in_w ∙ s.1;
+              in_p = ap (λ (o : Option Method). o >>= selected P class) f.in_p ∙ s.2;
+              in_w = ap (λ (o : Option Method). o >>= selected W class) f.in_w ∙ s.1;
               there = s.3.there;
               pausable = s.3.pausable ∙ x.pausable;
             })
 
-    begins : execute_of W set.main ≡ execute_of P set.main
-    begins = by executes
+    execute_same : execute_of W class ≡ execute_of P class
+    execute_same = by executes
       where
-        by : Executes ⊎ ((execute_of P set.main ≡ None) × (execute_of W set.main ≡ None)) → execute_of W set.main ≡ execute_of P set.main
+        by : Executes ⊎ ((execute_of P class ≡ None) × (execute_of W class ≡ None)) → execute_of W class ≡ execute_of P class
         by (inl x) = x.in_w ∙ sym x.in_p
         by (inr n) = n.1 ∙ sym n.0
 
-    begins_alike : (c : MethodId) (a : Method) → execute_of P set.main ≡ Some c → method_at P c ≡ Some a → (b : Method) × (method_at W c ≡ Some b) × (b.built_in ≡ a.built_in) × (a.pausable ≡ true)
-    begins_alike c a e at = let t = twin c a at in (t.method, t.there, t.built_in, by executes)
+    pub execute_pauses : (c : MethodId) (a : Method) → execute_of P class ≡ Some c → method_at P c ≡ Some a → a.pausable ≡ true
+    execute_pauses c a e at = by executes
       where
-        by : Executes ⊎ ((execute_of P set.main ≡ None) × (execute_of W set.main ≡ None)) → a.pausable ≡ true
+        by : Executes ⊎ ((execute_of P class ≡ None) × (execute_of W class ≡ None)) → a.pausable ≡ true
         by (inl x) =
             let same : c ≡ x.found = same_Some c x.found (sym e ∙ x.in_p) in
             ap (λ (z : Method). z.pausable) (same_Some a x.method (sym at ∙ ap (method_at P) same ∙ x.there)) ∙ x.pausable
@@ -583,6 +603,13 @@ module _ (set : Setting) (W : Program) (counted : List (List Bool)) (keeps : Kee
           where
             never : Some c ≡ None → ⊥
             never x = absurd (cc)
+
+  module _ (main : is_fit_main P set.main ≡ true) where
+    task : is_task P set.main ≡ true
+    task = (and_parts (is_task P set.main) _ (and_parts _ _ main).1).0
+
+    begins_alike : (c : MethodId) (a : Method) → execute_of P set.main ≡ Some c → method_at P c ≡ Some a → (b : Method) × (method_at W c ≡ Some b) × (b.built_in ≡ a.built_in) × (a.pausable ≡ true)
+    begins_alike c a e at = let t = twin c a at in (t.method, t.there, t.built_in, execute_pauses set.main task c a e at)
 
     pub shares_pauses : SharesPauses set W (fiber_ty P)
     shares_pauses = record {
@@ -598,12 +625,13 @@ module _ (set : Setting) (W : Program) (counted : List (List Bool)) (keeps : Kee
           let t = twin id a at in
           let same : t.method ≡ b = same_Some t.method b (sym t.there ∙ bt) in
           let q = special_of m p to id a b h at (subst (λ (z : Method). Like P a z) same t.like) in
-          record { agrees = q.agrees; there = (q.method, q.there) };
+          record { agrees = q.agrees; there = (q.method, q.there, no_message (special P (own_of P m) a id) q.method q.there (q.pausable ∙ is)) };
       sound = sound;
       natives = pausing_natives;
       same_natives = same_natives;
+      pauses = pausing_calls;
       same_slots = same_slots;
-      none_catches = (keeps.handlers, none_woven);
-      begins = begins;
+      catches = catches;
+      begins = execute_same set.main task;
       begins_alike = begins_alike;
     }

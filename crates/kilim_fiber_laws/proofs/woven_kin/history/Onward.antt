@@ -84,4 +84,4 @@ module _ (set : Setting) (W : Program) (marks : List (List Bool)) where
     onward Stands e = over [] (WStop Lost) (e acts [])
 
 pub history_goes_on : HistoryGoesOn
-history_goes_on set W marks none t first deeds acts x reached = onward set W marks t first deeds acts x reached (next_of set W marks t x) (machine_follows set W marks none t x)
+history_goes_on set W marks t first deeds acts x reached = onward set W marks t first deeds acts x reached (next_of set W marks t x) (machine_follows set W marks t x)

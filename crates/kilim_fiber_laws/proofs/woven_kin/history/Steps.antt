@@ -32,15 +32,15 @@ use Rattle.kilim_run_model.specs.Lone.{arg_at, box_limit, printed}
 use Rattle.kilim_run_model.specs.State.{Setting}
 use Rattle.kilim_fiber_laws.specs.woven_kin.history.History.{Does, Outcome, state_in, took, world_of}
 use Rattle.kilim_fiber_laws.specs.woven_kin.history.Laws.{MachineFollows}
-use Rattle.kilim_fiber_laws.specs.woven_kin.Nexts.{Next, Goes, Gets, Rests, Ends, Stands, arg_next, asks_next, begins_next, begun_in, begun_with, found_next, finish_next, get_next, message_next, native_next, next_by, next_in, next_of, paused_at, print_next, put_next, resumes_next, spent_or, start_next, stood, taken_at, ticked, yield_next, put_wait_next, wait_next, bound_next, PutsAgain, first_wait, putw_next, wait_again, waiting_at}
+use Rattle.kilim_fiber_laws.specs.woven_kin.Nexts.{raised, raises as table_raises, thrown_to, counted as table_counted, with_new, Next, Goes, Gets, Rests, Ends, Stands, arg_next, asks_next, begins_next, begun_in, begun_with, found_next, finish_next, get_next, message_next, native_next, next_by, next_in, next_of, paused_at, print_next, put_next, resumes_next, spent_or, start_next, stood, taken_at, ticked, yield_next, put_wait_next, wait_next, bound_next, PutsAgain, first_wait, putw_next, wait_again, waiting_at}
 use Rattle.kilim_fiber_laws.specs.woven_kin.Standing.{Standing}
-use Rattle.kilim_fiber_spec.specs.Acts.{Lost, World, counted, ending, gives_arg, native_does, prints, puts, puts_value, receives, starts, with_heap, put_waits, bounds, Apart, Wants, together}
+use Rattle.kilim_fiber_spec.specs.Acts.{raises as acts_raises, thrown_to as acts_thrown_to, Lost, World, counted, ending, gives_arg, native_does, prints, puts, puts_value, receives, starts, with_heap, put_waits, bounds, Apart, Wants, together}
 use Rattle.kilim_fiber_spec.specs.Acts as action
 use Rattle.kilim_run_model.specs.Course.{plain}
-use Rattle.kilim_fiber_laws.proofs.simulation.Uncaught.{wbehind_over, wraises_over, wthrows_over}
-use Rattle.kilim_run_machine.specs.Raising.{NoTables, index_at, raised_class}
+use Rattle.kilim_run_machine.specs.Raising.{index_at, other_index, raised_class, thrown, unwound}
+use Rattle.kilim_run_state.specs.Objects.{new_object}
 use Rattle.kilim_program.specs.declared.names.ClassId.{ClassId}
-use Rattle.kilim_fiber_spec.specs.Fibers.{frame, wraised_behind, Fib, Fiber_at, Resting, Saved, WRun, WStop, Woven_state, as_member, before, enter, executes_on, first_receiver, gets, handed_does, is_pausing, is_rewinding, marked, marks_of, member_does, rewound, spending_if, tick, wasks, wbegins, wbegins_in, wcode_in, weffect, wfetch, wfinishes, wfound, without_fiber, wnative, wreturns, wresumes, wstep, yields, put_again, puts_kept, putting, waits, waits_again, waits_on}
+use Rattle.kilim_fiber_spec.specs.Fibers.{frame, wraised_behind, wstands_at, Fib, Fiber_at, Resting, Saved, WRun, WStop, Woven_state, as_member, before, enter, executes_on, first_receiver, gets, handed_does, is_pausing, is_rewinding, marked, marks_of, member_does, rewound, spending_if, tick, wasks, wbegins, wbegins_in, wcode_in, weffect, wfetch, wfinishes, wfound, without_fiber, wnative, wreturns, wresumes, wstep, yields, put_again, puts_kept, putting, waits, waits_again, waits_on}
 use Rattle.kilim_fiber_spec.specs.Thread.{own_in, own_of, push}
 
 -- ---- the instruction at a place
@@ -99,7 +99,7 @@ abbrev is_none : Option (List Value) → Bool
 is_none (Some []) = true
 is_none o = false
 
-module _ (set : Setting) (W : Program) (marks : List (List Bool)) (none : NoTables W) (t : ℕ) where
+module _ (set : Setting) (W : Program) (marks : List (List Bool)) (t : ℕ) where
   abbrev Is : Outcome → Next → Type 0
   Is out next = Does set t out next
 
@@ -107,6 +107,17 @@ module _ (set : Setting) (W : Program) (marks : List (List Bool)) (none : NoTabl
 
   ends_at : (z : Standing) (why : EndCause) → Is (λ rest acts ps. ending set (world_of t z rest acts) WStop why) (Ends why)
   ends_at z why acts more = (world_of t z [] acts, refl, refl)
+
+  -- ---- exceptions
+
+  left_so : (zc zn : Standing) (why : EndCause) (left : List Activation) → Is (λ rest acts ps. acts_thrown_to set WStop (wstands_at set W marks zn.fiber ps) (world_of t zc rest acts) why (world_of t zn rest acts) left) (thrown_to zn why left)
+  left_so zc zn why [] = ends_at zc why
+  left_so zc zn why (f ∷ fs) = λ rest acts ps. refl
+
+  raises_so : (zc : Standing) (why : EndCause) (left : ClassId → List Activation) (o : Option ClassId) →
+      Is (λ rest acts ps. acts_raises set WStop (wstands_at set W marks zc.fiber ps) (world_of t zc rest acts) why W left o) (table_raises W zc why left o)
+  raises_so zc why left None = ends_at zc why
+  raises_so zc why left (Some c) = left_so zc (with_new zc (new_object W c)) why (left c)
 
   -- a counted instruction is done where instructions are left
   spent : (counts : Bool) (x : Standing) (out : Outcome) (next : Next) → Is out next → Is (λ rest acts ps. spending_if set W marks counts (world_of t x rest acts) (out rest acts ps)) (spent_or set counts x.done next)
@@ -133,13 +144,12 @@ module _ (set : Setting) (W : Program) (marks : List (List Bool)) (none : NoTabl
     abbrev raise : Fib → World → List ℕ → EndCause → Woven_state
     raise = wraised_behind set W marks (frame m p l s ∷ b)
 
-    -- nothing catches what is raised
-    raised_at : (why : EndCause) → Is (λ rest acts ps. raise z.fiber (here rest acts) ps why) (Ends why)
-    raised_at why acts more = (counted (here [] acts), wbehind_over set W marks none (frame m p l s ∷ b) z.fiber (here [] acts) (0 ∷ more) why, refl)
+    raised_at : (why : EndCause) → Is (λ rest acts ps. raise z.fiber (here rest acts) ps why) (raised W at_call why)
+    raised_at why = raises_so (table_counted at_call) why (λ c. unwound W c (Ref z.next) (frame m p l s ∷ b)) (raised_class W other_index why)
 
     -- where no verified code comes
-    lost_so : (o : Option (List Value)) (n : Native) (args : List Value) → native_next set at_call n args ≡ Stands → ((acts : List Act) (more : List ℕ) → handed_does set W marks go raise n o z.fiber (here [] acts) (0 ∷ more) ≡ WStop Lost) →
-        Is (λ rest acts ps. handed_does set W marks go raise n o z.fiber (here rest acts) ps) (native_next set at_call n args)
+    lost_so : (o : Option (List Value)) (n : Native) (args : List Value) → native_next set W at_call n args ≡ Stands → ((acts : List Act) (more : List ℕ) → handed_does set W marks go raise n o z.fiber (here [] acts) (0 ∷ more) ≡ WStop Lost) →
+        Is (λ rest acts ps. handed_does set W marks go raise n o z.fiber (here rest acts) ps) (native_next set W at_call n args)
     lost_so o n args stands lost = subst (λ (y : Next). Is (λ rest acts ps. handed_does set W marks go raise n o z.fiber (here rest acts) ps) y) (sym stands) lost
 
     -- a built-in method without the fiber among its arguments
@@ -150,7 +160,7 @@ module _ (set : Setting) (W : Program) (marks : List (List Bool)) (none : NoTabl
     put_so box n None = ends_at z cause.Large
     put_so box n (Some shape) = (λ acts more. (here [] acts, refl, refl, refl, refl, refl, refl), λ k rest acts ps. refl)
 
-    message_so : (box : BoxName) (v : Value) → Is (λ rest acts ps. puts_value set (here rest acts) WStop (λ after u. go z.fiber after ps u) (raise z.fiber (here rest acts) ps) box v) (message_next set.program at_call box v)
+    message_so : (box : BoxName) (v : Value) → Is (λ rest acts ps. puts_value set (here rest acts) WStop (λ after u. go z.fiber after ps u) (raise z.fiber (here rest acts) ps) box v) (message_next set.program W at_call box v)
     message_so box Null = raised_at cause.Null
     message_so box (Ref n) = put_so box n (shape_of set.program z.heap n)
     message_so box _ = λ acts more. refl
@@ -182,28 +192,30 @@ module _ (set : Setting) (W : Program) (marks : List (List Bool)) (none : NoTabl
           ∙ ap (λ (o : Option (List Token)). put_waits set (here (plain (act.Put box k shape) ∷ rest) acts) WStop (λ after v. go (rewound z.fiber) after ps v) box n o) has,
     )
 
-    wait_so : (box : BoxName) (v : Value) → nat_le set.limits.steps z.done ≡ false → Is (λ rest acts ps. waits set W marks go raise (Box box ∷ v ∷ []) z.fiber (here rest acts) ps) (wait_next set.program at_call box v)
-    wait_so box Null left = λ acts more. (
-      counted (here [] acts),
-      ap (λ (c : Bool). cond c (ending set (here [] acts) WStop cause.Spent) (put_now [] acts more (Box box ∷ Null ∷ []))) left ∙ wbehind_over set W marks none (frame m p l s ∷ b) z.fiber (here [] acts) more cause.Null,
-      refl,
-    )
+    -- instructions are left
+    spent_not : (out : Outcome) (next : Next) → nat_le set.limits.steps z.done ≡ false → Is out next → Is (λ rest acts ps. cond (nat_le set.limits.steps z.done) (ending set (here rest acts) WStop cause.Spent) (out rest acts ps)) next
+    spent_not out next left is = subst (λ (c : Bool). Is (λ rest acts ps. cond c (ending set (here rest acts) WStop cause.Spent) (out rest acts ps)) next) (sym left) is
+
+    wait_so : (box : BoxName) (v : Value) → nat_le set.limits.steps z.done ≡ false → Is (λ rest acts ps. waits set W marks go raise (Box box ∷ v ∷ []) z.fiber (here rest acts) ps) (wait_next set.program W at_call box v)
+    wait_so box Null left =
+        spent_not (λ rest acts ps. put_now rest acts ps (Box box ∷ Null ∷ [])) (raised W at_call cause.Null) left (raised_at cause.Null)
     wait_so box (Ref n) left = put_wait_so box n (shape_of set.program z.heap n) refl left
     wait_so box v left = λ acts more. ap (λ (c : Bool). cond c (ending set (here [] acts) WStop cause.Spent) (WStop Lost)) left
 
-    first_so : (v u : Value) → nat_le set.limits.steps z.done ≡ false → Is (λ rest acts ps. waits set W marks go raise (v ∷ u ∷ []) z.fiber (here rest acts) ps) (first_wait set.program at_call v u)
+    first_so : (v u : Value) → nat_le set.limits.steps z.done ≡ false → Is (λ rest acts ps. waits set W marks go raise (v ∷ u ∷ []) z.fiber (here rest acts) ps) (first_wait set.program W at_call v u)
     first_so (Box box) u left = wait_so box u left
     first_so v u left = λ acts more. ap (λ (c : Bool). cond c (ending set (here [] acts) WStop cause.Spent) (WStop Lost)) left
 
-    waits_so : (v u : Value) → Is (λ rest acts ps. waits set W marks go raise (v ∷ u ∷ []) z.fiber (here rest acts) ps) (spent_or set true z.done (first_wait set.program at_call v u))
+    waits_so : (v u : Value) → Is (λ rest acts ps. waits set W marks go raise (v ∷ u ∷ []) z.fiber (here rest acts) ps) (spent_or set true z.done (first_wait set.program W at_call v u))
     waits_so v u = by (nat_le set.limits.steps z.done) refl
       where
-        over : (xs : List Value) (acts : List Act) (more : List ℕ) → waits set W marks go raise xs z.fiber (here [] acts) (0 ∷ more) ≡ cond (nat_le set.limits.steps z.done) (ending set (here [] acts) WStop cause.Spent) (put_now [] acts more xs)
-        over (Box box ∷ Ref n ∷ []) acts more = refl
-        over xs acts more = refl
+        over : (xs : List Value) (acts : List Act) (more : List ℕ) → nat_le set.limits.steps z.done ≡ true → waits set W marks go raise xs z.fiber (here [] acts) (0 ∷ more) ≡ ending set (here [] acts) WStop cause.Spent
+        over (Box box ∷ Ref n ∷ []) acts more e = ap (λ (c : Bool). cond c (ending set (here [] acts) WStop cause.Spent) (put_now [] acts more (Box box ∷ Ref n ∷ []))) e
+        over (Box box ∷ Null ∷ []) acts more e = ap (λ (c : Bool). cond c (ending set (here [] acts) WStop cause.Spent) (put_now [] acts (0 ∷ more) (Box box ∷ Null ∷ []))) e
+        over xs acts more e = ap (λ (c : Bool). cond c (ending set (here [] acts) WStop cause.Spent) (put_now [] acts more xs)) e
 
-        by : (c : Bool) → nat_le set.limits.steps z.done ≡ c → Is (λ rest acts ps. waits set W marks go raise (v ∷ u ∷ []) z.fiber (here rest acts) ps) (cond c (Ends cause.Spent) (first_wait set.program at_call v u))
-        by true e = λ acts more. (here [] acts, over (v ∷ u ∷ []) acts more ∙ ap (λ (c : Bool). cond c (ending set (here [] acts) WStop cause.Spent) (put_now [] acts more (v ∷ u ∷ []))) e, refl)
+        by : (c : Bool) → nat_le set.limits.steps z.done ≡ c → Is (λ rest acts ps. waits set W marks go raise (v ∷ u ∷ []) z.fiber (here rest acts) ps) (cond c (Ends cause.Spent) (first_wait set.program W at_call v u))
+        by true e = λ acts more. (here [] acts, over (v ∷ u ∷ []) acts more e, refl)
         by false e = first_so v u e
 
     -- made again
@@ -243,11 +255,11 @@ module _ (set : Setting) (W : Program) (marks : List (List Bool)) (none : NoTabl
     again_so v u [] = λ acts more. refl
     again_so v u (kept ∷ others) = λ acts more. refl
 
-    putting_so : (v u : Value) (f : Fib) → z.fiber ≡ f → Is (λ rest acts ps. putting set W marks go raise (v ∷ u ∷ []) f (here rest acts) ps) (putw_next set (is_rewinding f) at_call v u)
+    putting_so : (v u : Value) (f : Fib) → z.fiber ≡ f → Is (λ rest acts ps. putting set W marks go raise (v ∷ u ∷ []) f (here rest acts) ps) (putw_next set W (is_rewinding f) at_call v u)
     putting_so v u (Fiber_at lo r de true pa) e = subst (λ (g : Fib). Is (λ rest acts ps. puts_kept set W marks go raise z.aside (v ∷ u ∷ []) g (here rest acts) ps) (wait_again set at_call v z.aside)) e (again_so v u z.aside)
-    putting_so v u (Fiber_at lo r de false pa) e = subst (λ (g : Fib). Is (λ rest acts ps. waits set W marks go raise (v ∷ u ∷ []) g (here rest acts) ps) (spent_or set true z.done (first_wait set.program at_call v u))) e (waits_so v u)
+    putting_so v u (Fiber_at lo r de false pa) e = subst (λ (g : Fib). Is (λ rest acts ps. waits set W marks go raise (v ∷ u ∷ []) g (here rest acts) ps) (spent_or set true z.done (first_wait set.program W at_call v u))) e (waits_so v u)
 
-    bound_so : (box : BoxName) (i : ℤ) → Is (λ rest acts ps. bounds set (here rest acts) WStop (λ after v. go z.fiber after ps v) (raise z.fiber (here rest acts) ps) box i) (bound_next at_call box i)
+    bound_so : (box : BoxName) (i : ℤ) → Is (λ rest acts ps. bounds set (here rest acts) WStop (λ after v. go z.fiber after ps v) (raise z.fiber (here rest acts) ps) box i) (bound_next W at_call box i)
     bound_so box (pos (suc n)) = (λ acts more. (here [] acts, refl, refl, refl, refl, refl, refl), λ rest acts ps. refl)
     bound_so box (pos zero) = raised_at cause.Size
     bound_so box (negsuc n) = raised_at cause.Size
@@ -260,12 +272,12 @@ module _ (set : Setting) (W : Program) (marks : List (List Bool)) (none : NoTabl
     print_so None = λ acts more. refl
     print_so (Some token) = (λ acts more. (here [] acts, refl, refl, refl, refl, refl, refl), λ rest acts ps. refl)
 
-    arg_so : (o : Option ℤ) → Is (λ rest acts ps. gives_arg set (here rest acts) WStop (λ after v. go z.fiber after ps v) (raise z.fiber (here rest acts) ps) o) (arg_next at_call o)
+    arg_so : (o : Option ℤ) → Is (λ rest acts ps. gives_arg set (here rest acts) WStop (λ after v. go z.fiber after ps v) (raise z.fiber (here rest acts) ps) o) (arg_next W at_call o)
     arg_so None = raised_at cause.Index
     arg_so (Some n) = λ rest acts ps. refl
 
     -- a tree of the shape in the deed comes
-    probe_so : (box : BoxName) → Is (Plainly native.Getnb (Box box ∷ [])) (native_next set at_call native.Getnb (Box box ∷ []))
+    probe_so : (box : BoxName) → Is (Plainly native.Getnb (Box box ∷ [])) (native_next set W at_call native.Getnb (Box box ∷ []))
     probe_so box = (
       λ acts more. (here [] acts, refl, refl, refl, refl, refl, refl),
       λ rest acts ps. refl,
@@ -323,22 +335,22 @@ module _ (set : Setting) (W : Program) (marks : List (List Bool)) (none : NoTabl
     member_so _ _ _ = λ acts more. refl
 
     -- those that can pause have the fiber behind their arguments
-    execute_stands : (args : List Value) → is_object (without_fiber args) ≡ false → native_next set at_call native.Execute args ≡ Stands
+    execute_stands : (args : List Value) → is_object (without_fiber args) ≡ false → native_next set W at_call native.Execute args ≡ Stands
     execute_stands (Ref n ∷ Fiber ∷ []) other = absurd (false≢true (sym other))
     execute_stands _ other = refl
 
-    execute_so : (args : List Value) (o : Option (List Value)) → without_fiber args ≡ o → Is (λ rest acts ps. handed_does set W marks go raise native.Execute o z.fiber (here rest acts) ps) (native_next set at_call native.Execute args)
+    execute_so : (args : List Value) (o : Option (List Value)) → without_fiber args ≡ o → Is (λ rest acts ps. handed_does set W marks go raise native.Execute o z.fiber (here rest acts) ps) (native_next set W at_call native.Execute args)
     execute_so args (Some (Ref n ∷ [])) e =
-        subst (λ (us : List Value). Is (λ rest acts ps. handed_does set W marks go raise native.Execute (Some (Ref n ∷ [])) z.fiber (here rest acts) ps) (native_next set at_call native.Execute us)) (sym (with_fiber args (Ref n ∷ []) e)) (λ rest acts ps. refl)
+        subst (λ (us : List Value). Is (λ rest acts ps. handed_does set W marks go raise native.Execute (Some (Ref n ∷ [])) z.fiber (here rest acts) ps) (native_next set W at_call native.Execute us)) (sym (with_fiber args (Ref n ∷ []) e)) (λ rest acts ps. refl)
     execute_so args o e = lost_so o native.Execute args (execute_stands args (ap is_object e)) (λ acts more. refl)
 
-    get_stands : (args : List Value) → is_one (without_fiber args) ≡ false → native_next set at_call native.Get args ≡ Stands
+    get_stands : (args : List Value) → is_one (without_fiber args) ≡ false → native_next set W at_call native.Get args ≡ Stands
     get_stands (v ∷ Fiber ∷ []) other = absurd (false≢true (sym other))
     get_stands _ other = refl
 
-    handed_get : (args : List Value) (o : Option (List Value)) → without_fiber args ≡ o → Is (λ rest acts ps. handed_does set W marks go raise native.Get o z.fiber (here rest acts) ps) (native_next set at_call native.Get args)
+    handed_get : (args : List Value) (o : Option (List Value)) → without_fiber args ≡ o → Is (λ rest acts ps. handed_does set W marks go raise native.Get o z.fiber (here rest acts) ps) (native_next set W at_call native.Get args)
     handed_get args (Some (v ∷ [])) e =
-        subst (λ (us : List Value). Is (λ rest acts ps. handed_does set W marks go raise native.Get (Some (v ∷ [])) z.fiber (here rest acts) ps) (native_next set at_call native.Get us)) (sym (with_fiber args (v ∷ []) e)) (get_so v)
+        subst (λ (us : List Value). Is (λ rest acts ps. handed_does set W marks go raise native.Get (Some (v ∷ [])) z.fiber (here rest acts) ps) (native_next set W at_call native.Get us)) (sym (with_fiber args (v ∷ []) e)) (get_so v)
     handed_get args o e = lost_so o native.Get args (get_stands args (ap is_one e)) (λ acts more. refl)
 
     lost_put : (o : Option (List Value)) → is_two o ≡ false → (f : Fib) (acts : List Act) (more : List ℕ) → handed_does set W marks go raise native.PutWait o f (here [] acts) (0 ∷ more) ≡ WStop Lost
@@ -348,25 +360,25 @@ module _ (set : Setting) (W : Program) (marks : List (List Bool)) (none : NoTabl
     lost_put (Some (v ∷ u ∷ [])) e f acts more = absurd (false≢true (sym e))
     lost_put (Some (v ∷ u ∷ x ∷ vs)) e f acts more = refl
 
-    put_stands : (args : List Value) → is_two (without_fiber args) ≡ false → native_next set at_call native.PutWait args ≡ Stands
+    put_stands : (args : List Value) → is_two (without_fiber args) ≡ false → native_next set W at_call native.PutWait args ≡ Stands
     put_stands (v ∷ u ∷ Fiber ∷ []) other = absurd (false≢true (sym other))
     put_stands _ other = refl
 
-    handed_put : (args : List Value) (o : Option (List Value)) → without_fiber args ≡ o → Is (λ rest acts ps. handed_does set W marks go raise native.PutWait o z.fiber (here rest acts) ps) (native_next set at_call native.PutWait args)
+    handed_put : (args : List Value) (o : Option (List Value)) → without_fiber args ≡ o → Is (λ rest acts ps. handed_does set W marks go raise native.PutWait o z.fiber (here rest acts) ps) (native_next set W at_call native.PutWait args)
     handed_put args (Some (v ∷ u ∷ [])) e =
-        subst (λ (us : List Value). Is (λ rest acts ps. handed_does set W marks go raise native.PutWait (Some (v ∷ u ∷ [])) z.fiber (here rest acts) ps) (native_next set at_call native.PutWait us)) (sym (with_fiber args (v ∷ u ∷ []) e)) (putting_so v u z.fiber refl)
+        subst (λ (us : List Value). Is (λ rest acts ps. handed_does set W marks go raise native.PutWait (Some (v ∷ u ∷ [])) z.fiber (here rest acts) ps) (native_next set W at_call native.PutWait us)) (sym (with_fiber args (v ∷ u ∷ []) e)) (putting_so v u z.fiber refl)
     handed_put args o e = lost_so o native.PutWait args (put_stands args (ap is_two e)) (λ acts more. lost_put o refl z.fiber acts more)
 
-    yield_stands : (args : List Value) → is_none (without_fiber args) ≡ false → native_next set at_call native.Yield args ≡ Stands
+    yield_stands : (args : List Value) → is_none (without_fiber args) ≡ false → native_next set W at_call native.Yield args ≡ Stands
     yield_stands (Fiber ∷ []) other = absurd (false≢true (sym other))
     yield_stands _ other = refl
 
-    handed_yield : (args : List Value) (o : Option (List Value)) → without_fiber args ≡ o → Is (λ rest acts ps. handed_does set W marks go raise native.Yield o z.fiber (here rest acts) ps) (native_next set at_call native.Yield args)
+    handed_yield : (args : List Value) (o : Option (List Value)) → without_fiber args ≡ o → Is (λ rest acts ps. handed_does set W marks go raise native.Yield o z.fiber (here rest acts) ps) (native_next set W at_call native.Yield args)
     handed_yield args (Some []) e =
-        subst (λ (us : List Value). Is (λ rest acts ps. handed_does set W marks go raise native.Yield (Some []) z.fiber (here rest acts) ps) (native_next set at_call native.Yield us)) (sym (with_fiber args [] e)) (yield_so z.fiber refl)
+        subst (λ (us : List Value). Is (λ rest acts ps. handed_does set W marks go raise native.Yield (Some []) z.fiber (here rest acts) ps) (native_next set W at_call native.Yield us)) (sym (with_fiber args [] e)) (yield_so z.fiber refl)
     handed_yield args o e = lost_so o native.Yield args (yield_stands args (ap is_none e)) (λ acts more. refl)
 
-    native_so : (n : Native) (args : List Value) → as_member (Some n) ≡ None → Is (λ rest acts ps. wnative set W marks go raise n args z.fiber (here rest acts) ps) (native_next set at_call n args)
+    native_so : (n : Native) (args : List Value) → as_member (Some n) ≡ None → Is (λ rest acts ps. wnative set W marks go raise n args z.fiber (here rest acts) ps) (native_next set W at_call n args)
     native_so native.Execute args o = execute_so args (without_fiber args) refl
     native_so native.Get args o = handed_get args (without_fiber args) refl
     native_so native.Yield args o = handed_yield args (without_fiber args) refl
@@ -381,7 +393,7 @@ module _ (set : Setting) (W : Program) (marks : List (List Bool)) (none : NoTabl
     native_so (native.OfFiber member) args o = absurd (cc)
     native_so _ _ o = λ acts more. refl
 
-    asks_so : (n : Option Native) (args : List Value) → Is (λ rest acts ps. wasks set W marks go raise (as_member n) n args z.fiber (here rest acts) ps) (asks_next set at_call args n)
+    asks_so : (n : Option Native) (args : List Value) → Is (λ rest acts ps. wasks set W marks go raise (as_member n) n args z.fiber (here rest acts) ps) (asks_next set W at_call args n)
     asks_so None args = λ acts more. refl
     asks_so (Some (native.OfFiber member)) args = member_so member args z.fiber
     asks_so (Some n) args = native_so n args refl
@@ -393,14 +405,14 @@ module _ (set : Setting) (W : Program) (marks : List (List Bool)) (none : NoTabl
     now rest acts = world_of t x rest acts
 
     abbrev By : Effect → Type 0
-    By e = Is (λ rest acts ps. weffect set W marks counts e top below x.fiber (now rest acts) ps) (next_by set W t counts x (move_by W e top below))
+    By e = Is (λ rest acts ps. weffect set W marks counts e top below x.fiber (now rest acts) ps) (next_by set W t counts x top below (move_by W e top below))
 
     goes : (c : Bool) (p : ℕ) (l s : List Value) (h : Objects) → Is (λ rest acts ps. WRun top.method p l s below x.fiber (tick set W marks c (with_heap (now rest acts) h)) ps) (Goes (ticked c (stood x (goes_on top p l s ∷ below) h)))
     goes true p l s h rest acts ps = refl
     goes false p l s h rest acts ps = refl
 
     makes : (c : Bool) (o : Object) (p : ℕ) (l s : List Value) (h : Objects) →
-        Is (λ rest acts ps. weffect set W marks c (effect.Makes o p l s h) top below x.fiber (now rest acts) ps) (next_by set W t c x (move.Makes o (goes_on top p l s ∷ below) h))
+        Is (λ rest acts ps. weffect set W marks c (effect.Makes o p l s h) top below x.fiber (now rest acts) ps) (next_by set W t c x top below (move.Makes o (goes_on top p l s ∷ below) h))
     makes true o p l s h rest acts ps = refl
     makes false o p l s h rest acts ps = refl
 
@@ -428,7 +440,7 @@ module _ (set : Setting) (W : Program) (marks : List (List Bool)) (none : NoTabl
     calls m args p l s h = by (nat_lt (length (goes_on top p l s ∷ below)) frame_limit)
       where
         by : (z : Bool) → Is (λ rest acts ps. cond z (enter set W marks m args (goes_on top p l s ∷ below) x.fiber (tick set W marks counts (with_heap (now rest acts) h)) ps) (ending set (with_heap (now rest acts) h) WStop cause.Depth))
-            (next_by set W t counts x (cond z (move.Runs (Enters (receiver_of W m args)) (entered W m args ∷ goes_on top p l s ∷ below) h) (move.Ends cause.Depth)))
+            (next_by set W t counts x top below (cond z (move.Runs (Enters (receiver_of W m args)) (entered W m args ∷ goes_on top p l s ∷ below) h) (move.Ends cause.Depth)))
         by true = entering counts m args (goes_on top p l s ∷ below) h
         by false = ends_at (stood x below h) cause.Depth
 
@@ -467,18 +479,17 @@ module _ (set : Setting) (W : Program) (marks : List (List Bool)) (none : NoTabl
     finishes h None = rests h
     finishes h (Some n) = begins n h (execute_of W set.main)
 
-    returns : (v : Option Value) (h : Objects) (fs : List Activation) → Is (λ rest acts ps. wreturns set W marks counts v fs x.fiber (with_heap (now rest acts) h) ps) (next_by set W t counts x (move.returned v fs h))
+    returns : (v : Option Value) (h : Objects) (fs : List Activation) → Is (λ rest acts ps. wreturns set W marks counts v fs x.fiber (with_heap (now rest acts) h) ps) (next_by set W t counts x top below (move.returned v fs h))
     returns v h [] = finishes h x.kept
     returns v h (caller ∷ fs) = back counts v caller fs h
 
-    -- nothing catches
-    raises : (c : Bool) (why : EndCause) → Is (λ rest acts ps. weffect set W marks c (effect.Raises why) top below x.fiber (now rest acts) ps) (Ends why)
-    raises true why acts more = (counted (now [] acts), wraises_over set W marks none x.fiber (0 ∷ more) (counted (now [] acts)) why x.next top below (raised_class W (index_at W top) why), refl)
-    raises false why acts more = (now [] acts, wraises_over set W marks none x.fiber (0 ∷ more) (now [] acts) why x.next top below (raised_class W (index_at W top) why), refl)
+    raises : (c : Bool) (why : EndCause) → Is (λ rest acts ps. weffect set W marks c (effect.Raises why) top below x.fiber (now rest acts) ps) (next_by set W t c x top below (move.Raises why))
+    raises true why = raises_so (ticked true x) why (λ k. thrown W k (Ref x.next) top below) (raised_class W (index_at W top) why)
+    raises false why = raises_so x why (λ k. thrown W k (Ref x.next) top below) (raised_class W (index_at W top) why)
 
-    throws : (c : Bool) (n : ℕ) (class : ClassId) (why : EndCause) → Is (λ rest acts ps. weffect set W marks c (effect.Throws n class why) top below x.fiber (now rest acts) ps) (Ends why)
-    throws true n class why acts more = (counted (now [] acts), wthrows_over set W marks none x.fiber (0 ∷ more) (counted (now [] acts)) why (counted (now [] acts)) class (Ref n) top below, refl)
-    throws false n class why acts more = (now [] acts, wthrows_over set W marks none x.fiber (0 ∷ more) (now [] acts) why (now [] acts) class (Ref n) top below, refl)
+    throws : (c : Bool) (n : ℕ) (class : ClassId) (why : EndCause) → Is (λ rest acts ps. weffect set W marks c (effect.Throws n class why) top below x.fiber (now rest acts) ps) (next_by set W t c x top below (move.Throws n class why))
+    throws true n class why = left_so (ticked true x) (ticked true x) why (thrown W class (Ref n) top below)
+    throws false n class why = left_so x x why (thrown W class (Ref n) top below)
 
     by_effect : (e : Effect) → By e
     by_effect (effect.Goes p l s h) = goes counts p l s h
@@ -506,8 +517,8 @@ module _ (set : Setting) (W : Program) (marks : List (List Bool)) (none : NoTabl
     found top below (Some (i, nx, mk)) e =
         let counts : Bool = mk && not (is_rewinding x.fiber) in
         let same : does W (own_of W top.method) i nx top.locals top.stack x.heap ≡ effect_of W top x.heap = effect_at W (marks_of marks top.method) top x.heap (method_at W top.method) i nx mk e in
-        spent counts x (λ rest acts ps. weffect set W marks counts (does W (own_of W top.method) i nx top.locals top.stack x.heap) top below x.fiber (world_of t x rest acts) ps) (next_by set W t counts x (moves W top below x.heap))
-        (subst (λ (d : Effect). Is (λ rest acts ps. weffect set W marks counts (does W (own_of W top.method) i nx top.locals top.stack x.heap) top below x.fiber (world_of t x rest acts) ps) (next_by set W t counts x (move_by W d top below))) same
+        spent counts x (λ rest acts ps. weffect set W marks counts (does W (own_of W top.method) i nx top.locals top.stack x.heap) top below x.fiber (world_of t x rest acts) ps) (next_by set W t counts x top below (moves W top below x.heap))
+        (subst (λ (d : Effect). Is (λ rest acts ps. weffect set W marks counts (does W (own_of W top.method) i nx top.locals top.stack x.heap) top below x.fiber (world_of t x rest acts) ps) (next_by set W t counts x top below (move_by W d top below))) same
         (by_effect x top below counts (does W (own_of W top.method) i nx top.locals top.stack x.heap)))
 
     by_frames : (fs : List Activation) → Is (λ rest acts ps. wstep set W marks (state_in fs x.fiber (world_of t x rest acts) ps)) (next_in set W marks t x fs)
@@ -516,4 +527,4 @@ module _ (set : Setting) (W : Program) (marks : List (List Bool)) (none : NoTabl
 
 pub machine_follows : MachineFollows
 unfolding next_of
-machine_follows set W marks none t x = by_frames set W marks none t x x.frames
+machine_follows set W marks t x = by_frames set W marks t x x.frames

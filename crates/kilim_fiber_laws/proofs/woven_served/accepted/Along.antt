@@ -47,7 +47,7 @@ use Rattle.kilim_fiber_laws.proofs.stands.serves.Whole.{whole}
 use Rattle.kilim_fiber_laws.proofs.stands.shares.Called.{each}
 use Rattle.kilim_fiber_laws.proofs.stands.shares.Fibers.{fiber_is}
 use Rattle.kilim_fiber_laws.proofs.stands.shares.Names.{twin}
-use Rattle.kilim_fiber_laws.proofs.stands.shares.Together.{shares_pauses, shares_rows}
+use Rattle.kilim_fiber_laws.proofs.stands.shares.Together.{execute_pauses, shares_pauses, shares_rows}
 use Rattle.kilim_fiber_laws.proofs.simulation.Natural.{ending_is}
 
 abbrev is_stopped : Thread → Bool
@@ -118,7 +118,7 @@ module _ (set : Setting) (run : IsRunOfAccepted set) where
       executes = λ class c n w ps task e course stands ready.
           let x = execute_taken set.program run.keeps run.form class task c e in
           let t = twin set.program W marks run.keeps run.form woven c x.method x.there in
-          (beginnings_serve set W marks form members facts rows).1 c x.method t.method n w ps x.there t.there t.built_in (takes_task set run.keeps run.form W marks form c x n)
+          (beginnings_serve set W marks form members facts rows).1 c x.method t.method n w ps x.there t.there t.built_in (execute_pauses set W marks run.keeps run.form run.well woven class task c x.method e x.there) (takes_task set run.keeps run.form W marks form c x n)
           (known_at W marks form (started set n w (Some c)) course (begun_few c n w x.method x.there) stands ready);
     }
 

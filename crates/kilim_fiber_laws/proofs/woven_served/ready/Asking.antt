@@ -1,6 +1,6 @@
 -- What a pausable call of `get` or of `yield` is, where it asks the built-in method.
 use Rattle.std.proofs.Common.{◌≡◌, cond, ℕ, zero, suc, Bool, true, false, List, [], ◌∷◌, ◌++◌, length, Option, Some, None, refl, sym, ap, subst, ◌∙◌}
-use Rattle.std.specs.Prelude.{codes, reverse}
+use Rattle.std.specs.Prelude.{◌||◌, codes, reverse}
 use Rattle.std.specs.FinMap.{get}
 use Rattle.kilim_program.specs.declared.class.Method.{Method}
 use Rattle.kilim_program.specs.declared.instr.Instr.TheVariants as instr
@@ -11,12 +11,13 @@ use Rattle.kilim_program.specs.declared.value.Value.TheVariants.{Box, Fiber, Int
 use Rattle.kilim_program.specs.Names.{method_at}
 use Rattle.kilim_program.specs.Program.{Program}
 use Rattle.kilim_run_state.specs.declared.value.Object.{Object as HeapObject}
-use Rattle.kilim_run_machine.specs.Does.{calls_method, calls_on, calls_text, chosen, does, special, takes_element}
+use Rattle.kilim_run_machine.specs.Does.{calls_method, calls_on, calls_text, chosen, does, gives_message, keeps_message, special, takes_element}
 use Rattle.kilim_run_machine.specs.Effect.{Asks, Calls, Effect, Goes, Raises, Stuck, as_class, as_receiver, on_value, on_values, with_some}
 use Rattle.kilim_program.specs.Members.{named_type}
 use Rattle.kilim_run_state.specs.Machine.{Objects}
-use Rattle.kilim_run_machine.specs.Natives.{is_built_in_constructor, is_handed_out, is_text_method}
-use Rattle.kilim_fiber_spec.proofs.alike.Lands.{hushed, q_index, q_int, q_object, q_value}
+use Rattle.kilim_run_machine.specs.Natives.{is_built_in_constructor, is_get_message, is_handed_out, is_message_constructor, is_of_message, is_text_method}
+use Rattle.kilim_fiber_spec.proofs.alike.Handed.{asks_other}
+use Rattle.kilim_fiber_spec.proofs.alike.Lands.{hushed, q_index, q_int, q_object, q_some, q_value}
 
 -- ---- what an effect that asks comes from
 
@@ -29,6 +30,22 @@ module _ (c : MethodId) (args : List Value) (q : ℕ) (l2 s2 : List Value) (h2 :
 
   pub not_called : (k : MethodId) (xs : List Value) (p : ℕ) (l s : List Value) (h : Objects) → Calls k xs p l s h ≡ Asks c args q l2 s2 h2 → ⊥
   not_called k xs p l s h e = cc
+
+  -- what keeps and gives the message of an exception asks nothing
+  not_kept : (xs : List Value) (p : ℕ) (l r : List Value) (h : Objects) → keeps_message xs p l r h ≡ Asks c args q l2 s2 h2 → ⊥
+  not_kept [] p l r h e = not_stuck e
+  not_kept (v ∷ []) p l r h e = not_stuck e
+  not_kept (v ∷ w ∷ []) p l r h e =
+      let quiet : hushed (keeps_message (v ∷ w ∷ []) p l r h) ≡ keeps_message (v ∷ w ∷ []) p l r h = simp (q_object, q_some) in
+      not_stuck (sym (ap hushed e) ∙ (quiet ∙ e))
+  not_kept (v ∷ w ∷ x ∷ xs) p l r h e = not_stuck e
+
+  not_given : (xs : List Value) (p : ℕ) (l r : List Value) (h : Objects) → gives_message xs p l r h ≡ Asks c args q l2 s2 h2 → ⊥
+  not_given [] p l r h e = not_stuck e
+  not_given (v ∷ []) p l r h e =
+      let quiet : hushed (gives_message (v ∷ []) p l r h) ≡ gives_message (v ∷ []) p l r h = simp (q_object, q_some) in
+      not_stuck (sym (ap hushed e) ∙ (quiet ∙ e))
+  not_given (v ∷ w ∷ xs) p l r h e = not_stuck e
 
   -- the topmost values, and those below
   pub record IsSplit (n : ℕ) (s : List Value) (go : List Value → List Value → Effect) : Type 0 where
@@ -60,6 +77,7 @@ module _ (c : MethodId) (args : List Value) (q : ℕ) (l2 s2 : List Value) (h2 :
     pub method : Method
     pub there : o ≡ Some method
     pub built_in : method.built_in ≡ true
+    pub no_message : is_of_message method ≡ false
     pub same : k ≡ c
     pub args_are : xs ≡ args
     pub rest_is : r ≡ s2
@@ -69,11 +87,24 @@ module _ (c : MethodId) (args : List Value) (q : ℕ) (l2 s2 : List Value) (h2 :
 
   pub method_of : (o : Option Method) (k : MethodId) (xs : List Value) (p : ℕ) (l r : List Value) (h : Objects) → calls_method o k xs p l r h ≡ Asks c args q l2 s2 h2 → IsMethod o k xs r
   method_of None k xs p l r h e = absurd (not_stuck e)
-  method_of (Some m) k xs p l r h e = by m.built_in refl e
+  method_of (Some m) k xs p l r h e = by m.built_in (is_message_constructor m) (is_get_message m) refl refl refl e
     where
-      by : (z : Bool) → m.built_in ≡ z → cond z (Asks k xs p l r h) (Calls k xs p l r h) ≡ Asks c args q l2 s2 h2 → IsMethod (Some m) k xs r
-      by true b e = let a = asked_parts k xs p l r h e in record { method = m; there = refl; built_in = b; same = a.0; args_are = a.1; rest_is = a.2 }
-      by false b e = absurd (not_called k xs p l r h e)
+      by : (z keeps gives : Bool) → m.built_in ≡ z → is_message_constructor m ≡ keeps → is_get_message m ≡ gives
+          → cond z (cond keeps (keeps_message xs p l r h) (cond gives (gives_message xs p l r h) (Asks k xs p l r h))) (Calls k xs p l r h) ≡ Asks c args q l2 s2 h2 → IsMethod (Some m) k xs r
+      by true true gives b keeps_is gives_is e = absurd (not_kept xs p l r h e)
+      by true false true b keeps_is gives_is e = absurd (not_given xs p l r h e)
+      by true false false b keeps_is gives_is e =
+          let a = asked_parts k xs p l r h e in
+          record { method = m; there = refl; built_in = b; no_message = ap (λ (z : Bool). z || is_get_message m) keeps_is ∙ gives_is; same = a.0; args_are = a.1; rest_is = a.2 }
+      by false keeps gives b keeps_is gives_is e = absurd (not_called k xs p l r h e)
+
+  -- called again, on any stack
+  pub asks_again : (o : Option Method) (k : MethodId) (xs r : List Value) → IsMethod o k xs r → (ys : List Value) (p : ℕ) (l s : List Value) (h : Objects) → calls_method o k ys p l s h ≡ Asks c ys p l s h
+  asks_again o k xs r is ys p l s h =
+      ap (λ (o : Option Method). calls_method o k ys p l s h) is.there
+      ∙ (ap (λ (d : Effect). cond is.method.built_in d (Calls k ys p l s h)) (asks_other is.method k ys p l s h is.no_message)
+      ∙ (ap (λ (z : Bool). cond z (Asks k ys p l s h) (Calls k ys p l s h)) is.built_in
+      ∙ ap (λ (x : MethodId). Asks x ys p l s h) is.same))
 
   -- the class on which a call asks
   pub record IsOn (p : Program) (named : Method) (id : MethodId) (xs r : List Value) (v : Value) (o : Option Ty) : Type 0 where

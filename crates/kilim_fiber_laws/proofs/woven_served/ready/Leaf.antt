@@ -22,8 +22,8 @@ use Rattle.kilim_type_sound.specs.Facts.{Selected}
 use Rattle.kilim_type_sound.specs.Fits.{AreThere, Classes, HeapFits, Holds, has_type, have_types}
 use Rattle.kilim_type_sound.proofs.Grounds.{facts_hold}
 use Rattle.kilim_isolation_pauses.specs.Pausing.{called}
-use Rattle.kilim_run_machine.specs.Does.{calls_method, calls_on, chosen, does, special}
-use Rattle.kilim_run_machine.specs.Effect.{Asks, Calls}
+use Rattle.kilim_run_machine.specs.Does.{calls_on, chosen, does, special}
+use Rattle.kilim_run_machine.specs.Effect.{Asks}
 use Rattle.kilim_program.specs.Members.{named_type}
 use Rattle.kilim_run_state.specs.Machine.{Objects}
 use Rattle.kilim_run_machine.specs.Natives.{is_built_in_constructor, is_handed_out, is_text_method, native_method, native_of}
@@ -36,7 +36,7 @@ use Rattle.kilim_type_laws.specs.Laws.{typing_at}
 use Rattle.kilim_fiber_laws.proofs.receivers.called.Called.{no_pause}
 use Rattle.kilim_weave_spec.specs.Woven.{below, first_of, if_there, pausable_callee, receiver, saved, saved_from, taken}
 use Rattle.kilim_weave_laws.specs.woven_programs.Law.{KeepsPauses}
-use Rattle.kilim_fiber_laws.proofs.woven_served.ready.Asking.{box_special, box_virtual, on_class, special_asked, static_again, static_asked, virtual_asked}
+use Rattle.kilim_fiber_laws.proofs.woven_served.ready.Asking.{asks_again, box_special, box_virtual, on_class, special_asked, static_again, static_asked, virtual_asked}
 use Rattle.kilim_fiber_laws.proofs.woven_served.ready.Below.{across, coded_at, none_named, receiver_assigns, types_same}
 use Rattle.kilim_fiber_laws.proofs.woven_served.ready.Clean.{heap_old, stack_clean}
 use Rattle.kilim_fiber_laws.proofs.woven_served.ready.Receiver.{special_instance, static_static, virtual_instance}
@@ -169,9 +169,7 @@ module _ (set : Setting) (run : IsRunOfAccepted set) (pauses : KeepsPauses set.p
         again_asks = λ l3 s3.
             box_virtual set.program own id callee k.0 to h q.1 q.0 q.2 c args to l s2 h none b l3 s3
             ∙ (ap (λ (o : Option Ty). calls_on set.program callee id [] to l3 s3 h (Box b) o) on.is
-            ∙ (ap (λ (o : Option Method). calls_method o (chosen set.program callee id on.class) (Box b ∷ []) to l3 s3 h) on.asked.there
-            ∙ (ap (λ (z : Bool). cond z (Asks (chosen set.program callee id on.class) (Box b ∷ []) to l3 s3 h) (Calls (chosen set.program callee id on.class) (Box b ∷ []) to l3 s3 h)) on.asked.built_in
-            ∙ ap (λ (x : MethodId). Asks x (Box b ∷ []) to l3 s3 h) on.asked.same)));
+            ∙ asks_again c args to l s2 h _ _ _ _ on.asked (Box b ∷ []) to l3 s3 h);
         drops = null_drops callee.result shape.2.0 (sym sel.result ∙ shape.2.1) shape.2.2;
       }
 
@@ -196,9 +194,7 @@ module _ (set : Setting) (run : IsRunOfAccepted set) (pauses : KeepsPauses set.p
         plain = plain;
         again_asks = λ l3 s3.
             box_special set.program own id callee k.0 to h q.1 q.0 q.2 c args to l s2 h none b l3 s3
-            ∙ (ap (λ (o : Option Method). calls_method o (special set.program own callee id) (Box b ∷ []) to l3 s3 h) r.5.there
-            ∙ (ap (λ (z : Bool). cond z (Asks (special set.program own callee id) (Box b ∷ []) to l3 s3 h) (Calls (special set.program own callee id) (Box b ∷ []) to l3 s3 h)) r.5.built_in
-            ∙ ap (λ (x : MethodId). Asks x (Box b ∷ []) to l3 s3 h) r.5.same));
+            ∙ asks_again c args to l s2 h _ _ _ _ r.5 (Box b ∷ []) to l3 s3 h;
         drops = null_drops callee.result shape.2.0 (sym sel.result ∙ shape.2.1) shape.2.2;
       }
 

@@ -14,10 +14,10 @@ use Rattle.kilim_program.specs.Program.{Program}
 use Rattle.kilim_type_sound.specs.Fits.{Classes, HeapFits, IsThere}
 use Rattle.kilim_isolation_pauses.specs.Pausing.{called}
 use Rattle.kilim_run_state.specs.declared.value.Object.{Object as HeapObject}
-use Rattle.kilim_run_machine.specs.Does.{calls_method, calls_on, calls_text, does, special, takes_element}
+use Rattle.kilim_run_machine.specs.Does.{calls_built_in, calls_method, calls_on, calls_text, does, special, takes_element}
 use Rattle.kilim_run_machine.specs.Effect.{Asks, Calls, Effect, Goes, as_class, as_receiver, on_value, on_values, with_some}
 use Rattle.kilim_run_state.specs.Machine.{Objects}
-use Rattle.kilim_run_machine.specs.Natives.{is_built_in_constructor, is_handed_out, is_take, is_text_method}
+use Rattle.kilim_run_machine.specs.Natives.{is_built_in_constructor, is_handed_out, is_of_message, is_take, is_text_method}
 use Rattle.kilim_fiber_laws.specs.receivers.called.Law.{Target, class_named, is_object}
 use Rattle.kilim_fiber_laws.proofs.woven_served.ready.Dummies.{dummies_taken}
 use Rattle.kilim_fiber_laws.specs.woven_served.ready.Law.{dummies_down, new_args}
@@ -53,7 +53,7 @@ module _ (p : Program) (of : Classes) (h : Objects) (heap : HeapFits p of h) whe
 
   method_now : (c : MethodId) (callee : Method) (args : List Value) (to : ℕ) (l s : List Value) → method_at p c ≡ Some callee → callee.built_in ≡ false → calls_method (method_at p c) c args to l s h ≡ Calls c args to l s h
   method_now c callee args to l s there coded =
-      ap (λ (o : Option Method). calls_method o c args to l s h) there ∙ ap (λ (z : Bool). cond z (Asks c args to l s h) (Calls c args to l s h)) coded
+      ap (λ (o : Option Method). calls_method o c args to l s h) there ∙ ap (λ (z : Bool). cond z (calls_built_in callee c args to l s h) (Calls c args to l s h)) coded
 
   module _ (own : Method) (named : Method) (c : MethodId) (callee : Method) (entered : method_at p c ≡ Some callee) (coded : callee.built_in ≡ false) (y : Value) (there : IsThere h y) (to : ℕ) (l s : List Value) where
     on_object : named.is_static ≡ false → again named y s ≡ with_dummies named.params (y ∷ s)
@@ -97,7 +97,7 @@ module _ (p : Program) (of : Classes) (h : Objects) (heap : HeapFits p of h) whe
         ∙ ap (λ (k : MethodId). Calls k (reverse (dummies_down named.params)) to l s h) (sym t.0)))))
       where
         not_out : is_handed_out p named ≡ false
-        not_out = ap (λ (z : Bool). z && not (is_built_in_constructor named || (is_text_method p named || is_take p named))) t.3
+        not_out = ap (λ (z : Bool). z && not (is_built_in_constructor named || (is_text_method p named || (is_take p named || is_of_message named)))) t.3
 
     pub redone : (i : Instr) → called p i ≡ Some named → Target p of own i named c y → does p own i to l (again named y s) h ≡ Calls c (new_args named y) to l s h
     redone (instr.Invokevirtual id) at t = virtual_again id at t ∙ ap (λ (args : List Value). Calls c args to l s h) (by_args t.0)

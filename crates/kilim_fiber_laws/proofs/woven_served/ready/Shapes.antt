@@ -9,11 +9,11 @@ use Rattle.kilim_program.specs.declared.class.Form.TheVariants.{Plain}
 use Rattle.kilim_program.specs.declared.class.Method.{Method}
 use Rattle.kilim_program.specs.declared.names.MethodId.{MethodId}
 use Rattle.kilim_program.specs.declared.ty.Ty.{Ty}
-use Rattle.kilim_program.specs.BuiltIn.{built_in_methods_in, exception_numbers}
+use Rattle.kilim_program.specs.BuiltIn.{built_in_methods_in}
 use Rattle.kilim_program.specs.Keeps.{Keeps}
 use Rattle.kilim_program.specs.Names.{class_name, method_at}
 use Rattle.kilim_program.specs.Program.{Program}
-use Rattle.kilim_program.proofs.BuiltIns.{constructors_too}
+use Rattle.kilim_program.proofs.BuiltIns.{exceptions_too}
 use Rattle.kilim_isolation_laws.proofs.typed_threads.fine.Natives.{built_in_one}
 use Rattle.kilim_run_machine.specs.Natives.{Native, native_method, native_named, natives}
 use Rattle.kilim_run_machine.specs.Natives as native
@@ -85,13 +85,13 @@ unfolding YieldAs
 this_yield m e = λ f. e
 
 all_get : (n : ℕ) → AllByRecursion GetAs (built_in_methods_in Plain n)
-all_get n = (other_get _ refl, (other_get _ refl, (other_get _ refl, (other_get _ refl, (other_get _ refl, (other_get _ refl, (other_get _ refl, (other_get _ refl, (other_get _ refl, (other_get _ refl, (other_get _ refl, (this_get _ (refl, refl, (_, refl, refl)), (other_get _ refl, (other_get _ refl, (other_get _ refl, (other_get _ refl, (other_get _ refl, (other_get _ refl, (other_get _ refl, (other_get _ refl, constructors_too (GetAs) n exception_numbers [] (λ c. other_get _ refl) tt))))))))))))))))))))
+all_get n = (other_get _ refl, (other_get _ refl, (other_get _ refl, (other_get _ refl, (other_get _ refl, (other_get _ refl, (other_get _ refl, (other_get _ refl, (other_get _ refl, (other_get _ refl, (other_get _ refl, (this_get _ (refl, refl, (_, refl, refl)), (other_get _ refl, (other_get _ refl, (other_get _ refl, (other_get _ refl, (other_get _ refl, (other_get _ refl, (other_get _ refl, (other_get _ refl, exceptions_too (GetAs) n [] (λ c. other_get _ refl) (λ c. other_get _ refl) (other_get _ refl) tt))))))))))))))))))))
 
 all_wait : (n : ℕ) → AllByRecursion WaitAs (built_in_methods_in Plain n)
-all_wait n = (other_wait _ refl, (other_wait _ refl, (other_wait _ refl, (other_wait _ refl, (other_wait _ refl, (other_wait _ refl, (other_wait _ refl, (other_wait _ refl, (other_wait _ refl, (other_wait _ refl, (this_wait _ ((_, refl, refl), refl, refl), (other_wait _ refl, (other_wait _ refl, (other_wait _ refl, (other_wait _ refl, (other_wait _ refl, (other_wait _ refl, (other_wait _ refl, (other_wait _ refl, (other_wait _ refl, constructors_too (WaitAs) n exception_numbers [] (λ c. other_wait _ refl) tt))))))))))))))))))))
+all_wait n = (other_wait _ refl, (other_wait _ refl, (other_wait _ refl, (other_wait _ refl, (other_wait _ refl, (other_wait _ refl, (other_wait _ refl, (other_wait _ refl, (other_wait _ refl, (other_wait _ refl, (this_wait _ ((_, refl, refl), refl, refl), (other_wait _ refl, (other_wait _ refl, (other_wait _ refl, (other_wait _ refl, (other_wait _ refl, (other_wait _ refl, (other_wait _ refl, (other_wait _ refl, (other_wait _ refl, exceptions_too (WaitAs) n [] (λ c. other_wait _ refl) (λ c. other_wait _ refl) (other_wait _ refl) tt))))))))))))))))))))
 
 all_yield : (n : ℕ) → AllByRecursion YieldAs (built_in_methods_in Plain n)
-all_yield n = (other_yield _ refl, (other_yield _ refl, (other_yield _ refl, (other_yield _ refl, (other_yield _ refl, (other_yield _ refl, (other_yield _ refl, (other_yield _ refl, (other_yield _ refl, (other_yield _ refl, (other_yield _ refl, (other_yield _ refl, (other_yield _ refl, (other_yield _ refl, (other_yield _ refl, (other_yield _ refl, (this_yield _ (refl, refl, refl), (other_yield _ refl, (other_yield _ refl, (other_yield _ refl, constructors_too (YieldAs) n exception_numbers [] (λ c. other_yield _ refl) tt))))))))))))))))))))
+all_yield n = (other_yield _ refl, (other_yield _ refl, (other_yield _ refl, (other_yield _ refl, (other_yield _ refl, (other_yield _ refl, (other_yield _ refl, (other_yield _ refl, (other_yield _ refl, (other_yield _ refl, (other_yield _ refl, (other_yield _ refl, (other_yield _ refl, (other_yield _ refl, (other_yield _ refl, (other_yield _ refl, (this_yield _ (refl, refl, refl), (other_yield _ refl, (other_yield _ refl, (other_yield _ refl, exceptions_too (YieldAs) n [] (λ c. other_yield _ refl) (λ c. other_yield _ refl) (other_yield _ refl) tt))))))))))))))))))))
 
 module _ (p : Program) (keeps : Keeps p) (form : p.form ≡ Plain) where
   built : (m : Method) (k : Native) → native_method p m ≡ Some k → (m.built_in ≡ true) × (native_named natives (class_name p m.owner) m.name ≡ Some k)

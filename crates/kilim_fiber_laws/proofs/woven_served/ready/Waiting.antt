@@ -21,8 +21,8 @@ use Rattle.kilim_type_sound.specs.Facts.{Selected}
 use Rattle.kilim_type_sound.specs.Fits.{AreThere, Classes, HeapFits, Holds, IsThere, has_type, have_types}
 use Rattle.kilim_type_sound.proofs.Grounds.{facts_hold}
 use Rattle.kilim_isolation_pauses.specs.Pausing.{called}
-use Rattle.kilim_run_machine.specs.Does.{calls_method, calls_on, chosen, does, special}
-use Rattle.kilim_run_machine.specs.Effect.{Asks, Calls}
+use Rattle.kilim_run_machine.specs.Does.{calls_on, chosen, does, special}
+use Rattle.kilim_run_machine.specs.Effect.{Asks}
 use Rattle.kilim_run_state.specs.Machine.{Objects}
 use Rattle.kilim_run_machine.specs.Natives.{native_method, native_of}
 use Rattle.kilim_run_machine.specs.Natives as native
@@ -32,7 +32,7 @@ use Rattle.kilim_type_spec.specs.Step.{Types, peek, type_step, vtype}
 use Rattle.kilim_type_laws.specs.Laws.{typing_at}
 use Rattle.kilim_weave_spec.specs.Woven.{first_of, if_there, pausable_callee, receiver, taken}
 use Rattle.kilim_weave_laws.specs.woven_programs.Law.{KeepsPauses}
-use Rattle.kilim_fiber_laws.proofs.woven_served.ready.Asking.{box_special_one, box_virtual_one, on_class, special_asked, static_asked, virtual_asked}
+use Rattle.kilim_fiber_laws.proofs.woven_served.ready.Asking.{asks_again, box_special_one, box_virtual_one, on_class, special_asked, static_asked, virtual_asked}
 use Rattle.kilim_fiber_laws.proofs.woven_served.ready.Below.{none_named, receiver_assigns, types_same}
 use Rattle.kilim_fiber_laws.proofs.woven_served.ready.Clean.{heap_old, stack_clean}
 use Rattle.kilim_fiber_laws.proofs.woven_served.ready.Leaf.{IsCall, IsSound, OnClass, Special, Static, callee_there, heads, is_call, method_is}
@@ -124,9 +124,7 @@ module _ (set : Setting) (run : IsRunOfAccepted set) (pauses : KeepsPauses set.p
         again_asks = λ l3 s3.
             box_virtual_one set.program own id callee found.0 to k q.1 q.0 q.2 c args to l s2 k one box Null l3 s3
             ∙ (ap (λ (o : Option Ty). calls_on set.program callee id (Null ∷ []) to l3 s3 k (Box box) o) on.is
-            ∙ (ap (λ (o : Option Method). calls_method o (chosen set.program callee id on.class) (Box box ∷ Null ∷ []) to l3 s3 k) on.asked.there
-            ∙ (ap (λ (z : Bool). cond z (Asks (chosen set.program callee id on.class) (Box box ∷ Null ∷ []) to l3 s3 k) (Calls (chosen set.program callee id on.class) (Box box ∷ Null ∷ []) to l3 s3 k)) on.asked.built_in
-            ∙ ap (λ (x : MethodId). Asks x (Box box ∷ Null ∷ []) to l3 s3 k) on.asked.same)));
+            ∙ asks_again c args to l s2 h _ _ _ _ on.asked (Box box ∷ Null ∷ []) to l3 s3 k);
         drops = leaf.none_drops set run pauses sound W marks form is_form agree of h heap m own there p to l s stack g callee c args s2 callee.result (sym sel.result ∙ shape.2);
       }
 
@@ -152,9 +150,7 @@ module _ (set : Setting) (run : IsRunOfAccepted set) (pauses : KeepsPauses set.p
         plain = plain;
         again_asks = λ l3 s3.
             box_special_one set.program own id callee found.0 to k q.1 q.0 q.2 c args to l s2 k one box Null l3 s3
-            ∙ (ap (λ (o : Option Method). calls_method o (special set.program own callee id) (Box box ∷ Null ∷ []) to l3 s3 k) r.5.there
-            ∙ (ap (λ (z : Bool). cond z (Asks (special set.program own callee id) (Box box ∷ Null ∷ []) to l3 s3 k) (Calls (special set.program own callee id) (Box box ∷ Null ∷ []) to l3 s3 k)) r.5.built_in
-            ∙ ap (λ (x : MethodId). Asks x (Box box ∷ Null ∷ []) to l3 s3 k) r.5.same));
+            ∙ asks_again c args to l s2 h _ _ _ _ r.5 (Box box ∷ Null ∷ []) to l3 s3 k;
         drops = leaf.none_drops set run pauses sound W marks form is_form agree of h heap m own there p to l s stack g callee c args s2 callee.result (sym sel.result ∙ shape.2);
       }
 

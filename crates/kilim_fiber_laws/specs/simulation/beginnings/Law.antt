@@ -1,5 +1,5 @@
 -- From the beginning of a task on, a woven fiber does what the thread does.
-use Rattle.std.specs.Prelude.{◌≡◌, ◌↔◌, ◌⊎◌, ℕ, Bool, false, List, [], ◌∷◌, Some}
+use Rattle.std.specs.Prelude.{◌≡◌, ◌↔◌, ◌⊎◌, ℕ, Bool, true, false, List, [], ◌∷◌, Some}
 use Rattle.kilim_program.specs.declared.class.Method.{Method}
 use Rattle.kilim_program.specs.declared.names.MethodId.{MethodId}
 use Rattle.kilim_program.specs.declared.value.Value.{Value}
@@ -34,12 +34,12 @@ pub record ServesAlong (set : Setting) (W : Program) (marks : List (List Bool)) 
   pub pausing : (j : ℕ) → ComesToRest set W marks most (wsteps set W marks j x)
   pub fine : (j : ℕ) → IsFineState set.program W (wsteps set W marks j x)
 
--- A method that isn't pausable begins, as the constructor of task 0 does. Or the `execute` of a started task begins: with code, where the
--- woven method may begin with added instructions, or the built-in one.
+-- A method that isn't pausable begins, as the constructor of task 0 does. Or the `execute` of a started task begins, which is pausable: with
+-- code, where the woven method may begin with added instructions, or the built-in one.
 abbrev pub BeginningsServe : Type 0
 BeginningsServe =
     (set : Setting) (W : Program) (marks : List (List Bool)) (form : Forms set W marks) → Members set.program W → ((m : MethodId) → Facts set.program W (code set W marks) (form m)) → Rows set W marks form →
     ((c : MethodId) (args : List Value) (w : World) (ps : List ℕ) → is_pausable set.program c ≡ false → Known set W marks form (From set (Run c 0 (entered set.program c args).locals [] (self_of set.program c args) [] w)) →
     ServesAlong set W marks form most_uncounted (Run c 0 (entered set.program c args).locals [] (self_of set.program c args) [] w) (enter set W marks c args [] new_fiber w ps))
-    × ((c : MethodId) (a b : Method) (n : ℕ) (w : World) (ps : List ℕ) → method_at set.program c ≡ Some a → method_at W c ≡ Some b → b.built_in ≡ a.built_in → Takes set W marks form c (Ref n ∷ []) (Ref n) → Known set W marks form (From set (started set n w (Some c))) →
+    × ((c : MethodId) (a b : Method) (n : ℕ) (w : World) (ps : List ℕ) → method_at set.program c ≡ Some a → method_at W c ≡ Some b → b.built_in ≡ a.built_in → a.pausable ≡ true → Takes set W marks form c (Ref n ∷ []) (Ref n) → Known set W marks form (From set (started set n w (Some c))) →
     ServesAlong set W marks form most_uncounted (started set n w (Some c)) (wstarted set W marks n w new_fiber ps (Some c)))

@@ -80,7 +80,7 @@ returns-in-Some-halted-clause-run c =
     let whole : (c.args.limit - c.steps.left + leg.done) + leg.rest ≡ c.args.limit = omega (arith, all, few) in
     let told = rw c.in-Leaves.is at leg.leg.is in
     let rest = told.1 in
-    let settles = c.in-Ok-go_on.ensures.settles (effect_of c.args.program.now (activation rest.before) rest.heap) rest.before rest.heap c.run_frame.new.heap rest.shows rest.same in
+    let settles = c.in-Ok-go_on.ensures.settles (effect_of c.args.program.now (activation rest.before) rest.heap) rest.before rest.heap rest.shows rest.same in
     record {
       done = c.args.limit - c.steps.left + leg.done;
       left = leg.rest;
@@ -90,7 +90,7 @@ returns-in-Some-halted-clause-run c =
       runs = so_far;
       all = whole;
       sum = omega (arith, all, few, most);
-      is = halts c.args.program.now c.args.counted.now (not (is_rewinding c.run_frame.new.records)) c.in-Some.own.now leg.rest leg.rest c.in-Ok.leg.left c.in-Ok.leg.fuel leg.calls leg.calls leg.heap leg.heap c.run_frame.new.frames c.run_frame.new.heap (AtFirst (omega arith) refl refl) (omega arith) most c.in-Leaves.mark c.in-Leaves.moved c.in-Leaves.next rest c.go_on.new.frames c.in-Some-halted.halted (rw c.in-Some-halted.is at settles);
+      is = halts c.args.program.now c.args.counted.now (not (is_rewinding c.run_frame.new.records)) c.in-Some.own.now leg.rest leg.rest c.in-Ok.leg.left c.in-Ok.leg.fuel leg.calls leg.calls leg.heap leg.heap c.run_frame.new.frames c.run_frame.new.heap (AtFirst (omega arith) refl refl) (omega arith) most c.in-Leaves.mark c.in-Leaves.moved c.in-Leaves.next rest c.go_on.new.frames c.go_on.new.heap c.in-Some-halted.halted (rw c.in-Some-halted.is at settles);
     }
 
 pub less_if-left-requires : goal.less_if-left-requires
@@ -111,12 +111,12 @@ steps-preserved c =
     let whole : (c.args.limit - c.steps.left + leg.done) + leg.rest ≡ c.args.limit = omega (arith, all, few) in
     let told = rw c.in-Leaves.is at leg.leg.is in
     let rest = told.1 in
-    let settles = c.in-Ok-go_on.ensures.settles (effect_of c.args.program.now (activation rest.before) rest.heap) rest.before rest.heap c.run_frame.new.heap rest.shows rest.same in
+    let settles = c.in-Ok-go_on.ensures.settles (effect_of c.args.program.now (activation rest.before) rest.heap) rest.before rest.heap rest.shows rest.same in
     let by : c.counts_by.result ≡ (c.in-Leaves.mark && (not (is_rewinding c.run_frame.new.records))) = c.counts_by.ensures ∙ ap (λ (b : Bool). c.in-Leaves.mark && b) c.is_live-live.ensures in
     let fewer = no_more c.counts_by.result c.in-Ok.leg.left c.less_if-left.result c.less_if-left.ensures in
-    let on = further c.args.program.now c.args.counted.now (not (is_rewinding c.run_frame.new.records)) c.in-Some.own.now leg.rest leg.rest c.in-Ok.leg.left c.in-Ok.leg.fuel leg.calls leg.calls leg.heap leg.heap c.run_frame.new.frames c.run_frame.new.heap (AtFirst (omega arith) refl refl) (omega arith) most c.in-Leaves.mark c.in-Leaves.moved c.in-Leaves.next rest c.go_on.new.frames c.counts_by.result c.less_if-left.result by c.less_if-left.ensures (rw c.in-None.is at settles) in
+    let on = further c.args.program.now c.args.counted.now (not (is_rewinding c.run_frame.new.records)) c.in-Some.own.now leg.rest leg.rest c.in-Ok.leg.left c.in-Ok.leg.fuel leg.calls leg.calls leg.heap leg.heap c.run_frame.new.frames c.run_frame.new.heap (AtFirst (omega arith) refl refl) (omega arith) most c.in-Leaves.mark c.in-Leaves.moved c.in-Leaves.next rest c.go_on.new.frames c.go_on.new.heap c.counts_by.result c.less_if-left.result by c.less_if-left.ensures (rw c.in-None.is at settles) in
     record {
-      runs = ran_on c.args.program.now c.args.counted.now c.args.limit leg.rest (calls_of c.args.frames.now) c.args.heap.now c.args.records.now (c.args.limit - c.steps.left + leg.done) leg.calls leg.heap c.run_frame.new.records whole c.requires.safe so_far (c.args.limit - c.less_if-left.result) c.less_if-left.result (calls_of c.go_on.new.frames) c.run_frame.new.heap on (omega (arith, fewer, most)) refl;
+      runs = ran_on c.args.program.now c.args.counted.now c.args.limit leg.rest (calls_of c.args.frames.now) c.args.heap.now c.args.records.now (c.args.limit - c.steps.left + leg.done) leg.calls leg.heap c.run_frame.new.records whole c.requires.safe so_far (c.args.limit - c.less_if-left.result) c.less_if-left.result (calls_of c.go_on.new.frames) c.go_on.new.heap on (omega (arith, fewer, most)) refl;
       roomy = c.in-Ok-go_on.ensures.roomy;
       few = omega (arith, fewer, most, all, few);
     }

@@ -1,12 +1,13 @@
 //! The built-in methods that are handed out in woven form, by their names.
 
 ghost use Rattle.std.specs.Prelude.{◌≡◌, codes, Some, IfSome};
+ghost use Rattle.kilim_program.specs.Lengths.{is_reference};
 ghost use Rattle.kilim_run_machine.specs.Natives as a_native;
-ghost use Rattle.kilim_run_machine.specs.Natives.{is_built_in_constructor, is_handed_out_of, is_of, natives, native_named, native_of};
+ghost use Rattle.kilim_run_machine.specs.Natives.{is_built_in_constructor, is_handed_out_of, is_of, is_of_message, takes_object, natives, native_named, native_of};
 ghost use Rattle.kilim_fiber_steps.specs.records.natives.Natives.{meaning, member_meant};
 
 use kilim_program::lookups::{class_at, method_at};
-use kilim_program::{Method, MethodId, Program};
+use kilim_program::{Base, Method, MethodId, Program, Ty};
 use kilim_units::Units;
 
 /// A member of `kilim/Fiber`.
@@ -162,6 +163,27 @@ fn is_built_in_constructor(method: &Method) -> bool
     method.built_in && method.name.is_text(b"<init>") && method.params.is_empty()
 }
 
+fn is_reference(ty: &Ty) -> bool
+    ensures { result ≡ is_reference ty.now }
+{
+    ty.dims > 0 || matches!(ty.base, Base::Class(_))
+}
+
+fn takes_object(params: &[Ty]) -> bool
+    ensures { result ≡ takes_object params.now }
+{
+    params.len() == 1 && is_reference(&params[0])
+}
+
+// What the instructions do themselves with the message of an exception.
+fn is_of_message(method: &Method) -> bool
+    ensures { result ≡ is_of_message method.now }
+{
+    method.built_in
+        && (method.name.is_text(b"<init>") && takes_object(method.params.as_slice())
+            || method.name.is_text(b"getMessage"))
+}
+
 fn is_of(class: &Units, name: &[u8], method: &Method) -> bool
     ensures { result ≡ is_of class.now name.now method.now }
 {
@@ -174,7 +196,8 @@ fn is_handed_out(class: &Units, method: &Method) -> bool
     method.built_in
         && !(is_built_in_constructor(method)
             || is_of(class, b"java/lang/String", method)
-            || (is_of(class, b"kilim/Sys", method) && method.name.is_text(b"take")))
+            || (is_of(class, b"kilim/Sys", method) && method.name.is_text(b"take"))
+            || is_of_message(method))
 }
 
 /// Which built-in method it is, where it is one that is handed out.

@@ -1,18 +1,20 @@
 -- What each built-in method gives, by what it does.
-use Rattle.std.proofs.Common.{◌≡◌, ℕ, ◌+◌, true, List, [], length, Option, Some, None, refl, sym, ap, subst, ◌∙◌, arith}
-use Rattle.std.specs.Prelude.{slice_get, codes}
+use Rattle.std.proofs.Common.{◌≡◌, ℕ, ◌+◌, Bool, true, false, cond, List, [], length, Option, Some, None, refl, sym, ap, subst, ◌∙◌, arith}
+use Rattle.std.specs.Prelude.{◌&&◌, ◌||◌, not, slice_get, codes}
+use Rattle.std.specs.Str.{bytes_eq}
+use Rattle.std.proofs.lemmas.Bool.{false≢true}
 use Rattle.std.specs.List.{AllByRecursion}
 use Rattle.kilim_program.specs.declared.class.Form.TheVariants.{Plain}
 use Rattle.kilim_program.specs.declared.class.Form.{Form}
 use Rattle.kilim_program.specs.declared.class.Method.{Method}
 use Rattle.kilim_program.specs.declared.names.MethodId.{MethodId}
 use Rattle.kilim_program.specs.declared.ty.Ty.{Ty}
-use Rattle.kilim_program.specs.BuiltIn.{built_in_constructor, built_in_methods_in, class_id, class_type, exception_numbers, int_type}
+use Rattle.kilim_program.specs.BuiltIn.{built_in_constructor, built_in_methods_in, class_id, class_type, get_message, int_type, message_constructor}
 use Rattle.kilim_program.specs.Keeps.{Keeps}
 use Rattle.kilim_program.specs.Names.{◌>>=◌, class_name, method_at}
 use Rattle.kilim_program.specs.Program.{Program}
-use Rattle.kilim_program.proofs.BuiltIns.{constructors_too}
-use Rattle.kilim_run_machine.specs.Natives.{Native, native_in, native_method, native_of}
+use Rattle.kilim_program.proofs.BuiltIns.{exceptions_too}
+use Rattle.kilim_run_machine.specs.Natives.{Native, is_built_in_constructor, is_of, is_of_message, native_in, native_method, native_named, native_of, natives}
 use Rattle.kilim_run_machine.specs.Natives as native
 use Rattle.kilim_type_sound.proofs.BuiltInMembers.{NamedAt, built_in_at, named_at, none_built_in}
 use Rattle.kilim_type_laws.proofs.members.ValueClasses.{all_of_at}
@@ -37,6 +39,20 @@ some_native a b e = cc
 none_native : (o : Option Native) (n : Native) → o ≡ None → o ≡ Some n → ⊥
 none_native o n e f = cc
 
+-- what keeps or gives the message of an exception is handed to nobody
+pub message_is_none : (class : List ℕ) (m : Method) → is_of_message m ≡ true → native_in class m ≡ None
+message_is_none class m is =
+    ap (λ (z : Bool). cond z (native_named natives class m.name) None)
+    (not_out m.built_in (is_built_in_constructor m) (is_of class (codes "java/lang/String") m) (is_of class (codes "kilim/Sys") m && bytes_eq m.name (codes "take")) (is_of_message m) is)
+  where
+    not_out : (z constructs text take message : Bool) → message ≡ true → (z && not (constructs || (text || (take || message)))) ≡ false
+    not_out false constructs text take message is = refl
+    not_out true true text take message is = refl
+    not_out true false true take message is = refl
+    not_out true false false true message is = refl
+    not_out true false false false true is = refl
+    not_out true false false false false is = absurd (false≢true is)
+
 module _ (p : Program) (first : ℕ) where
   as_none : (m : Method) (name : List ℕ) → class_name p m.owner ≡ name → by_name m name ≡ None → GivesAs p first m
   unfolding GivesAs
@@ -49,7 +65,7 @@ module _ (p : Program) (first : ℕ) where
 module _ (p : Program) (n : ℕ) (object : class_name p (class_id n) ≡ codes "java/lang/Object") (string : class_name p (class_id (n + 1)) ≡ codes "java/lang/String") (task : class_name p (class_id (n + 4)) ≡ codes "kilim/Task")
     (mailbox : class_name p (class_id (n + 5)) ≡ codes "kilim/Mailbox") (sys : class_name p (class_id (n + 6)) ≡ codes "kilim/Sys") where
   all_give : AllByRecursion (GivesAs p n) (built_in_methods_in Plain n)
-  all_give = (as_none p n _ (codes "java/lang/Object") object refl, (as_none p n _ (codes "java/lang/String") string refl, (as_none p n _ (codes "java/lang/String") string refl, (as_none p n _ (codes "java/lang/String") string refl, (as_none p n _ (codes "kilim/Task") task refl, (as_some p n _ (codes "kilim/Task") native.Start task refl refl, (as_some p n _ (codes "kilim/Task") native.Execute task refl refl, (as_none p n _ (codes "kilim/Mailbox") mailbox refl, (as_some p n _ (codes "kilim/Mailbox") native.Bound mailbox refl refl, (as_some p n _ (codes "kilim/Mailbox") native.Put mailbox refl refl, (as_some p n _ (codes "kilim/Mailbox") native.PutWait mailbox refl refl, (as_some p n _ (codes "kilim/Mailbox") native.Get mailbox refl refl, (as_some p n _ (codes "kilim/Mailbox") native.Getnb mailbox refl refl, (as_some p n _ (codes "kilim/Sys") native.Print sys refl refl, (as_some p n _ (codes "kilim/Sys") native.Print sys refl refl, (as_some p n _ (codes "kilim/Sys") native.Print sys refl refl, (as_some p n _ (codes "kilim/Sys") native.Yield sys refl refl, (as_some p n _ (codes "kilim/Sys") native.ArgCount sys refl refl, (as_some p n _ (codes "kilim/Sys") native.Arg sys refl refl, (as_none p n _ (codes "kilim/Sys") sys refl, constructors_too (GivesAs p n) n exception_numbers [] (λ c. as_none p n (built_in_constructor c) (class_name p c) refl refl) tt))))))))))))))))))))
+  all_give = (as_none p n _ (codes "java/lang/Object") object refl, (as_none p n _ (codes "java/lang/String") string refl, (as_none p n _ (codes "java/lang/String") string refl, (as_none p n _ (codes "java/lang/String") string refl, (as_none p n _ (codes "kilim/Task") task refl, (as_some p n _ (codes "kilim/Task") native.Start task refl refl, (as_some p n _ (codes "kilim/Task") native.Execute task refl refl, (as_none p n _ (codes "kilim/Mailbox") mailbox refl, (as_some p n _ (codes "kilim/Mailbox") native.Bound mailbox refl refl, (as_some p n _ (codes "kilim/Mailbox") native.Put mailbox refl refl, (as_some p n _ (codes "kilim/Mailbox") native.PutWait mailbox refl refl, (as_some p n _ (codes "kilim/Mailbox") native.Get mailbox refl refl, (as_some p n _ (codes "kilim/Mailbox") native.Getnb mailbox refl refl, (as_some p n _ (codes "kilim/Sys") native.Print sys refl refl, (as_some p n _ (codes "kilim/Sys") native.Print sys refl refl, (as_some p n _ (codes "kilim/Sys") native.Print sys refl refl, (as_some p n _ (codes "kilim/Sys") native.Yield sys refl refl, (as_some p n _ (codes "kilim/Sys") native.ArgCount sys refl refl, (as_some p n _ (codes "kilim/Sys") native.Arg sys refl refl, (as_none p n _ (codes "kilim/Sys") sys refl, exceptions_too (GivesAs p n) n [] (λ c. as_none p n (built_in_constructor c) (class_name p c) refl refl) (λ c. as_none p n (message_constructor n c) (class_name p c) refl (message_is_none (class_name p c) (message_constructor n c) refl)) (as_none p n (get_message n) (class_name p (class_id (n + 7))) refl (message_is_none (class_name p (class_id (n + 7))) (get_message n) refl)) tt))))))))))))))))))))
 
 -- ---- of a program in plain form
 

@@ -14,8 +14,8 @@ all_classes-requires-clause-bounded c = let few = methods_are_few c.args.files.n
 
 pub invariant_of-result : goal.invariant_of-result
 invariant_of-result c =
-    let linked = is_linked c.args.files.now c.args.form c.in-Ok.parts c.in-Ok.ensures c.in-Ok-all_classes.classes c.in-Ok-all_methods.methods (c.in-Ok-all_classes.ensures ∙ ap (λ (n : ℕ). c.in-Ok.parts.classes ++ built_in_classes_in c.args.form (length c.in-Ok.parts.classes) n) c.len-count.ensures) c.in-Ok-all_methods.ensures in
+    let linked = is_linked c.args.files.now c.args.form c.in-Ok.parts c.in-Ok.ensures c.in-Ok-all_classes.classes c.in-Ok-all_methods.methods c.in-Ok-all_fields.fields (c.in-Ok-all_classes.ensures ∙ ap (λ (n : ℕ). c.in-Ok.parts.classes ++ built_in_classes_in c.args.form (length c.in-Ok.parts.classes) n) c.len-count.ensures) c.in-Ok-all_methods.ensures c.in-Ok-all_fields.ensures in
     c.links_keep.ensures c.args.files.now c.args.form _ (record { few = c.requires.few; fit = c.requires.fit; none = c.requires.none; linked = linked })
 
 pub returns : goal.returns
-returns c = is_linked c.args.files.now c.args.form c.in-Ok.parts c.in-Ok.ensures c.in-Ok-all_classes.classes c.in-Ok-all_methods.methods (c.in-Ok-all_classes.ensures ∙ ap (λ (n : ℕ). c.in-Ok.parts.classes ++ built_in_classes_in c.args.form (length c.in-Ok.parts.classes) n) c.len-count.ensures) c.in-Ok-all_methods.ensures
+returns c = is_linked c.args.files.now c.args.form c.in-Ok.parts c.in-Ok.ensures c.in-Ok-all_classes.classes c.in-Ok-all_methods.methods c.in-Ok-all_fields.fields (c.in-Ok-all_classes.ensures ∙ ap (λ (n : ℕ). c.in-Ok.parts.classes ++ built_in_classes_in c.args.form (length c.in-Ok.parts.classes) n) c.len-count.ensures) c.in-Ok-all_methods.ensures c.in-Ok-all_fields.ensures

@@ -2,9 +2,9 @@ use Rattle.std.proofs.lemmas.List.Sums.{sum_by_more_le}
 use Rattle.std.proofs.Common.{◌<◌, length, get_or, take, arith, ◌≡◌, ◌+◌, ℕ, ap, ◌∙◌}
 use Rattle.std.specs.Prelude.{sum_by}
 use Rattle.std.proofs.lemmas.Option.{slice_get-get_or}
-use Rattle.kilim_link_world.specs.Agrees.{field_count, each_below}
+use Rattle.kilim_link_world.specs.Agrees.{field_count, each_below, fields_before}
 use Rattle.kilim_link_world.proofs.Below.{one_more}
-use Rattle.kilim_link_world.proofs.Saying.{total_next}
+use Rattle.kilim_link_world.proofs.Saying.{fields_next}
 use Rattle.kilim_link_world.proofs.members.field_firsts.Goals as goal
 
 pub loop-i-preserved : goal.loop-i-preserved
@@ -15,14 +15,14 @@ loop-i-preserved c =
     let at = get_or classes i c.index-classes-i.result in
     let is = slice_get-get_or classes i c.index-classes-i.result lt in (
       omega (arith, c.loop-i-test.true),
-      total_next field_count classes i at c.loop-i.total is c.loop-i.invariant.1 c.len.result c.len.ensures,
-      one_more (λ n. sum_by field_count (take n classes)) c.loop-i.firsts c.push.new.self i c.loop-i.total c.loop-i.invariant.2 c.loop-i.invariant.1 c.in-Ok.ensures.ok,
+      fields_next classes i at c.loop-i.total is c.loop-i.invariant.1 c.len.result c.len.ensures,
+      one_more (λ n. fields_before classes n) c.loop-i.firsts c.push.new.self i c.loop-i.total c.loop-i.invariant.2 c.loop-i.invariant.1 c.in-Ok.ensures.ok,
     )
 
 pub returns : goal.returns
 returns c =
     let classes = c.args.classes.now in
-    let first = λ (n : ℕ). sum_by field_count (take n classes) in
+    let first = λ (n : ℕ). fields_before classes n in
     let at_end : c.loop-i.i ≡ length classes = omega (arith, c.loop-i-test.false, c.loop-i.invariant.0) in
     one_more first c.loop-i.firsts _ c.loop-i.i c.loop-i.total c.loop-i.invariant.2 c.loop-i.invariant.1 c.in-Ok-push.ensures.ok
     ∙ ap (λ (n : ℕ). each_below first (n + 1)) at_end
@@ -33,7 +33,7 @@ overflow_cast-total c =
     let lt : c.loop-i.i < length classes = omega (arith, c.loop-i-test.true) in
     let fit = sum_by_more_le field_count classes c.loop-i.i c.index-classes-i.result lt in
     let few = c.requires in
-    let so_far : c.loop-i.total ≡ sum_by field_count (take c.loop-i.i classes) = c.loop-i.invariant.1 in
+    let so_far : c.loop-i.total ≡ fields_before classes c.loop-i.i = c.loop-i.invariant.1 in
     let own = c.len.ensures in
     omega arith
 
@@ -43,6 +43,6 @@ overflow_add-total c =
     let lt : c.loop-i.i < length classes = omega (arith, c.loop-i-test.true) in
     let fit = sum_by_more_le field_count classes c.loop-i.i c.index-classes-i.result lt in
     let few = c.requires in
-    let so_far : c.loop-i.total ≡ sum_by field_count (take c.loop-i.i classes) = c.loop-i.invariant.1 in
+    let so_far : c.loop-i.total ≡ fields_before classes c.loop-i.i = c.loop-i.invariant.1 in
     let own = c.len.ensures in
     omega arith

@@ -9,8 +9,8 @@ use Rattle.kilim_link_spec.specs.declared.view.DeclaredField.{DeclaredField}
 use Rattle.kilim_link_spec.specs.World.{is_field, fields_at}
 use Rattle.kilim_link_inherited.specs.declared.said.Said.{Said}
 use Rattle.kilim_link_inherited.specs.Nearest.{said_by, said_of}
-use Rattle.kilim_link_world.specs.Agrees.{field_count, placed}
-use Rattle.kilim_link_world.proofs.Saying.{class_next, total_next, length_next}
+use Rattle.kilim_link_world.specs.Agrees.{field_count, fields_before, placed}
+use Rattle.kilim_link_world.proofs.Saying.{class_next, fields_next, length_next}
 use Rattle.kilim_link_world.proofs.nearest.all_fields_said.Goals as goal
 
 pub loop-i-preserved : goal.loop-i-preserved
@@ -21,21 +21,21 @@ loop-i-preserved c =
     let at = get_or classes i c.index-classes-i.result in
     let is = slice_get-get_or classes i c.index-classes-i.result lt in
     let own = c.in-Ok.own in
-    let first : c.loop-i.total ≡ sum_by field_count (take i classes) = c.loop-i.invariant.1.1.0 in
+    let first : c.loop-i.total ≡ fields_before classes i = c.loop-i.invariant.1.1.0 in
     let listed = c.as_slice-fields.ensures in
-    let said_first : (name descriptor : List ℕ) → said_by own name descriptor ≡ placed (sum_by field_count (take i classes)) (position_from (is_field name descriptor) 0 at.fields) =
+    let said_first : (name descriptor : List ℕ) → said_by own name descriptor ≡ placed (fields_before classes i) (position_from (is_field name descriptor) 0 at.fields) =
     λ name descriptor.
     c.in-Ok.ensures name descriptor
     ∙ (ap (λ (n : ℕ). placed n (position_from (is_field name descriptor) 0 c.as_slice-fields.result.now)) first
-    ∙ ap (λ (ms : List DeclaredField). placed (sum_by field_count (take i classes)) (position_from (is_field name descriptor) 0 ms)) listed) in (
+    ∙ ap (λ (ms : List DeclaredField). placed (fields_before classes i) (position_from (is_field name descriptor) 0 ms)) listed) in (
       omega (arith, c.loop-i-test.true),
       (
         length_next c.loop-i.said own c.push.new.self i c.in-Ok-push.ensures.ok c.loop-i.invariant.1.0,
         (
-          total_next field_count classes i at c.loop-i.total is first (length c.as_slice-fields.result.now) (ap length listed),
+          fields_next classes i at c.loop-i.total is first (length c.as_slice-fields.result.now) (ap length listed),
           λ d name descriptor.
               ap (λ (ss : List (List Said)). said_of (slice_get ss d) name descriptor) c.in-Ok-push.ensures.ok
-              ∙ class_next (is_field name descriptor) fields_at refl name descriptor (λ k. sum_by field_count (take k classes)) classes i at c.loop-i.said own is c.loop-i.invariant.1.0 (said_first name descriptor)
+              ∙ class_next (is_field name descriptor) fields_at refl name descriptor (λ k. fields_before classes k) classes i at c.loop-i.said own is c.loop-i.invariant.1.0 (said_first name descriptor)
               (λ k. c.loop-i.invariant.1.1.1 k name descriptor) d,
         ),
       ),
@@ -49,7 +49,7 @@ returns-clause-said c =
     let classes = c.args.classes.now in
     λ d name descriptor.
     c.loop-i.invariant.1.1.1 d.0 name descriptor
-    ∙ ap (λ (vs : List ClassView). placed (sum_by field_count (take d.0 classes)) (position_from (is_field name descriptor) 0 (fields_at (slice_get vs d.0)))) (take_all c.loop-i.i classes (omega (arith, c.loop-i-test.false)))
+    ∙ ap (λ (vs : List ClassView). placed (fields_before classes d.0) (position_from (is_field name descriptor) 0 (fields_at (slice_get vs d.0)))) (take_all c.loop-i.i classes (omega (arith, c.loop-i-test.false)))
 
 pub fields_said-requires : goal.fields_said-requires
 fields_said-requires c =
@@ -57,7 +57,7 @@ fields_said-requires c =
     let lt : c.loop-i.i < length classes = omega (arith, c.loop-i-test.true) in
     let fit = sum_by_more_le field_count classes c.loop-i.i c.index-classes-i.result lt in
     let few = c.requires in
-    let so_far : c.loop-i.total ≡ sum_by field_count (take c.loop-i.i classes) = c.loop-i.invariant.1.1.0 in
+    let so_far : c.loop-i.total ≡ fields_before classes c.loop-i.i = c.loop-i.invariant.1.1.0 in
     let own = ap length c.as_slice-fields.ensures in
     omega arith
 
@@ -67,7 +67,7 @@ overflow_cast-total c =
     let lt : c.loop-i.i < length classes = omega (arith, c.loop-i-test.true) in
     let fit = sum_by_more_le field_count classes c.loop-i.i c.index-classes-i.result lt in
     let few = c.requires in
-    let so_far : c.loop-i.total ≡ sum_by field_count (take c.loop-i.i classes) = c.loop-i.invariant.1.1.0 in
+    let so_far : c.loop-i.total ≡ fields_before classes c.loop-i.i = c.loop-i.invariant.1.1.0 in
     let own = ap length c.as_slice-fields.ensures in
     omega arith
 
@@ -77,6 +77,6 @@ overflow_add-total c =
     let lt : c.loop-i.i < length classes = omega (arith, c.loop-i-test.true) in
     let fit = sum_by_more_le field_count classes c.loop-i.i c.index-classes-i.result lt in
     let few = c.requires in
-    let so_far : c.loop-i.total ≡ sum_by field_count (take c.loop-i.i classes) = c.loop-i.invariant.1.1.0 in
+    let so_far : c.loop-i.total ≡ fields_before classes c.loop-i.i = c.loop-i.invariant.1.1.0 in
     let own = ap length c.as_slice-fields.ensures in
     omega arith

@@ -1,12 +1,14 @@
 -- A fiber that pauses goes on by itself, still pausing, or rests.
-use Rattle.std.proofs.Common.{◌≡◌, ℕ, ℤ, pos, zero, suc, Bool, true, false, cond, not, List, [], ◌∷◌, Option, Some, None, refl, sym, ap, subst, ◌∙◌, ◌+◌}
+use Rattle.std.proofs.Common.{◌≡◌, ℕ, ℤ, pos, negsuc, zero, suc, Bool, true, false, cond, not, List, [], ◌∷◌, Option, Some, None, refl, sym, ap, subst, ◌∙◌, ◌+◌}
 use Rattle.std.specs.Prelude.{nat_le, nat_lt, ◌&&◌}
 use Rattle.kilim_program.specs.declared.instr.Instr.{Instr}
 use Rattle.kilim_program.specs.declared.names.BoxName.{BoxName}
+use Rattle.kilim_program.specs.declared.names.ClassId.{ClassId}
 use Rattle.kilim_program.specs.declared.value.Value.{Value}
 use Rattle.kilim_program.specs.declared.value.Value.TheVariants.{Int, Null, Ref, Box, Fiber}
 use Rattle.kilim_program.specs.Program.{Program}
 use Rattle.kilim_run_journal.specs.declared.entry.Act.{Act}
+use Rattle.kilim_run_state.specs.declared.cause.EndCause.{EndCause}
 use Rattle.kilim_run_state.specs.declared.cause.EndCause.TheVariants as cause
 use Rattle.kilim_run_state.specs.declared.value.Token.{Token}
 use Rattle.kilim_run_state.specs.Machine.{Activation}
@@ -15,14 +17,14 @@ use Rattle.kilim_run_machine.specs.Moves.{Move, moves, push_result, push_value}
 use Rattle.kilim_run_machine.specs.Moves as move
 use Rattle.kilim_run_machine.specs.Natives.{Native, FiberMember, Pc, Down, Up, Save, Place, Restore, Receiver, native_of}
 use Rattle.kilim_run_machine.specs.Natives as native
+use Rattle.kilim_run_machine.specs.Raising.{index_at, other_index, raised_class, thrown, unwound}
+use Rattle.kilim_run_state.specs.Objects.{new_object}
 use Rattle.kilim_run_state.specs.Shapes.{shape_of}
 use Rattle.kilim_run_model.specs.kin.Kin.{FramesKin}
 use Rattle.kilim_run_model.specs.Course.{Course}
 use Rattle.kilim_run_model.specs.declared.deed.Deed.{Deed}
 use Rattle.kilim_run_model.specs.Lone.{arg_at, box_limit, printed}
 use Rattle.kilim_run_model.specs.State.{Setting}
-use Rattle.kilim_fiber_laws.proofs.stands.shares.Together.{none_woven}
-use Rattle.kilim_run_machine.specs.Raising.{NoTables}
 use Rattle.kilim_fiber_laws.proofs.woven_kin.history.Steps.{machine_follows}
 use Rattle.kilim_fiber_laws.proofs.Reached.{acts, along, first, next_like, state}
 use Rattle.kilim_fiber_laws.specs.Fibers.{IsFiberOf, IsReached}
@@ -30,7 +32,7 @@ use Rattle.kilim_fiber_laws.specs.Served.{CanServe}
 use Rattle.kilim_fiber_laws.specs.woven_kin.history.History.{Does, Outcome, state_in, state_of, world_of}
 use Rattle.kilim_fiber_laws.proofs.woven_kin.Records.{pausing_same}
 use Rattle.kilim_fiber_laws.specs.woven_kin.Alike.{HasFree, Like, NextLike}
-use Rattle.kilim_fiber_laws.specs.woven_kin.Nexts.{Next, Goes, Puts, Gets, Probes, Starts, Prints, Rests, Ends, Stands, arg_next, asks_next, begins_next, begun_with, found_next, finish_next, get_next, message_next, native_next, next_by, next_in, next_of, opens_next, print_next, put_next, spent_or, start_next, stood, ticked, yield_next, put_wait_next, wait_next, bound_next, PutWaits, Bounds, PutsAgain, first_wait, putw_next, taken_at, wait_again, waiting_at}
+use Rattle.kilim_fiber_laws.specs.woven_kin.Nexts.{Next, Goes, Puts, Gets, Probes, Starts, Prints, Rests, Ends, Stands, arg_next, asks_next, begins_next, begun_with, found_next, finish_next, get_next, message_next, native_next, counted, next_by, next_in, next_of, opens_next, print_next, put_next, raised, raises, thrown_to, with_new, spent_or, start_next, stood, ticked, yield_next, put_wait_next, wait_next, bound_next, PutWaits, Bounds, PutsAgain, first_wait, putw_next, taken_at, wait_again, waiting_at}
 use Rattle.kilim_fiber_laws.specs.woven_kin.Standing.{Standing}
 use Rattle.kilim_fiber_spec.specs.Acts.{Over, World, Apart}
 use Rattle.kilim_fiber_spec.specs.Fibers.{Fib, Fiber_at, Resting, Saved, WStop, is_pausing, is_rewinding, member_does, pausing, rewound, wfetch, wstep, wsteps}
@@ -56,24 +58,41 @@ module _ (set : Setting) (W : Program) (t : ℕ) where
   ticked_still true z e = e
   ticked_still false z e = e
 
+  thrown_still : (z : Standing) (why : EndCause) (left : List Activation) → is_pausing z.fiber ≡ true → StillPauses (thrown_to z why left)
+  thrown_still z why [] e = tt
+  thrown_still z why (f ∷ fs) e = e
+
+  raises_still : (z : Standing) (why : EndCause) (left : ClassId → List Activation) (o : Option ClassId) → is_pausing z.fiber ≡ true → StillPauses (raises W z why left o)
+  raises_still z why left None e = tt
+  raises_still z why left (Some c) e = thrown_still (with_new z (new_object W c)) why (left c) e
+
+  ticked_pauses : (counts : Bool) (z : Standing) → is_pausing z.fiber ≡ true → is_pausing (ticked counts z).fiber ≡ true
+  ticked_pauses true z e = e
+  ticked_pauses false z e = e
+
   module _ (z : Standing) (e : is_pausing z.fiber ≡ true) where
+    raised_still : (why : EndCause) → StillPauses (raised W z why)
+    raised_still why = raises_still (counted z) why (λ c. unwound W c (Ref z.next) z.frames) (raised_class W other_index why) e
+
     put_still : (box : BoxName) (n : ℕ) (o : Option (List Token)) → StillPauses (put_next z box n o)
     put_still box n None = tt
     put_still box n (Some shape) = tt
 
-    message_still : (box : BoxName) (v : Value) → StillPauses (message_next set.program z box v)
+    message_still : (box : BoxName) (v : Value) → StillPauses (message_next set.program W z box v)
     message_still box (Ref n) = put_still box n (shape_of set.program z.heap n)
+    message_still box Null = raised_still cause.Null
     message_still box _ = tt
 
     put_wait_still : (box : BoxName) (n : ℕ) (o : Option (List Token)) → StillPauses (put_wait_next set.program z box n o)
     put_wait_still box n None = tt
     put_wait_still box n (Some shape) = tt
 
-    wait_still : (box : BoxName) (v : Value) → StillPauses (wait_next set.program z box v)
+    wait_still : (box : BoxName) (v : Value) → StillPauses (wait_next set.program W z box v)
     wait_still box (Ref n) = put_wait_still box n (shape_of set.program z.heap n)
+    wait_still box Null = raised_still cause.Null
     wait_still box _ = tt
 
-    first_still : (v u : Value) → StillPauses (first_wait set.program z v u)
+    first_still : (v u : Value) → StillPauses (first_wait set.program W z v u)
     first_still (Box box) u = wait_still box u
     first_still _ u = tt
 
@@ -81,13 +100,14 @@ module _ (set : Setting) (W : Program) (t : ℕ) where
     again_still (Box box) (k ∷ ks) = spent_still true z.done (PutsAgain box k.root k.shape (taken_at (record z { heap = k.heap; aside = ks })) (waiting_at box z) (taken_at (record z { aside = ks }))) tt
     again_still _ _ = tt
 
-    putw_still : (again : Bool) (v u : Value) → StillPauses (putw_next set again z v u)
+    putw_still : (again : Bool) (v u : Value) → StillPauses (putw_next set W again z v u)
     putw_still true v u = again_still v z.aside
-    putw_still false v u = spent_still true z.done (first_wait set.program z v u) (first_still v u)
+    putw_still false v u = spent_still true z.done (first_wait set.program W z v u) (first_still v u)
 
-    bound_still : (box : BoxName) (i : ℤ) → StillPauses (bound_next z box i)
+    bound_still : (box : BoxName) (i : ℤ) → StillPauses (bound_next W z box i)
     bound_still box (pos (suc n)) = tt
-    bound_still box _ = tt
+    bound_still box (pos zero) = raised_still cause.Size
+    bound_still box (negsuc n) = raised_still cause.Size
 
     start_still : (n : ℕ) (o : Option (List Token)) → StillPauses (start_next z n o)
     start_still n None = tt
@@ -97,8 +117,8 @@ module _ (set : Setting) (W : Program) (t : ℕ) where
     print_still None = tt
     print_still (Some token) = tt
 
-    arg_still : (o : Option ℤ) → StillPauses (arg_next z o)
-    arg_still None = tt
+    arg_still : (o : Option ℤ) → StillPauses (arg_next W z o)
+    arg_still None = raised_still cause.Index
     arg_still (Some n) = e
 
     get_still : (v : Value) → StillPauses (get_next z v)
@@ -129,7 +149,7 @@ module _ (set : Setting) (W : Program) (t : ℕ) where
     yield_still true = rewound_still z.fiber e
     yield_still false = pausing_still z.fiber
 
-    native_still : (n : Native) (args : List Value) → StillPauses (native_next set z n args)
+    native_still : (n : Native) (args : List Value) → StillPauses (native_next set W z n args)
     native_still native.Execute (Ref n ∷ Fiber ∷ []) = e
     native_still native.Getnb (Box box ∷ []) = tt
     native_still native.ArgCount [] = e
@@ -144,7 +164,7 @@ module _ (set : Setting) (W : Program) (t : ℕ) where
     native_still (native.OfFiber member) args = member_still member args z.fiber e
     native_still _ _ = tt
 
-    asks_still : (n : Option Native) (args : List Value) → StillPauses (asks_next set z args n)
+    asks_still : (n : Option Native) (args : List Value) → StillPauses (asks_next set W z args n)
     asks_still None args = tt
     asks_still (Some n) args = native_still n args
 
@@ -164,21 +184,23 @@ module _ (set : Setting) (W : Program) (t : ℕ) where
         by true = ticked_still counts (record z { frames = push_value (Box (record { task = t; number = z.boxes })) z.frames; boxes = z.boxes + 1 }) e
         by false = tt
 
-  by_still : (x : Standing) (counts : Bool) (m : Move) → is_pausing x.fiber ≡ true → StillPauses (next_by set W t counts x m)
-  by_still x counts (move.Runs change frames heap) e = ticked_still counts (stood x frames heap) e
-  by_still x counts (move.Makes o frames heap) e = ticked_still counts _ e
-  by_still x counts (move.Opens frames heap) e = opens_still (stood x frames heap) e counts
-  by_still x counts (move.Asks id args frames heap) e = asks_still (stood x frames heap) e (native_of W id) args
-  by_still x counts (move.Returns heap) e = finish_still (record x { heap = heap }) e x.kept
-  by_still x counts (move.Raises why) e = tt
-  by_still x counts (move.Throws object class why) e = tt
-  by_still x counts (move.Ends why) e = tt
-  by_still x counts move.Stuck e = tt
+  by_still : (x : Standing) (counts : Bool) (top : Activation) (below : List Activation) (m : Move) → is_pausing x.fiber ≡ true → StillPauses (next_by set W t counts x top below m)
+  by_still x counts top below (move.Runs change frames heap) e = ticked_still counts (stood x frames heap) e
+  by_still x counts top below (move.Makes o frames heap) e = ticked_still counts _ e
+  by_still x counts top below (move.Opens frames heap) e = opens_still (stood x frames heap) e counts
+  by_still x counts top below (move.Asks id args frames heap) e = asks_still (stood x frames heap) e (native_of W id) args
+  by_still x counts top below (move.Returns heap) e = finish_still (record x { heap = heap }) e x.kept
+  by_still x counts top below (move.Raises why) e =
+      raises_still (ticked counts x) why (λ c. thrown W c (Ref x.next) top below) (raised_class W (index_at W top) why) (ticked_pauses counts x e)
+  by_still x counts top below (move.Throws object class why) e = thrown_still (ticked counts x) why (thrown W class (Ref object) top below) (ticked_pauses counts x e)
+  by_still x counts top below (move.Ends why) e = tt
+  by_still x counts top below move.Stuck e = tt
 
   found_still : (x : Standing) (top : Activation) (below : List Activation) (o : Option (Instr × ℕ × Bool)) → is_pausing x.fiber ≡ true → StillPauses (found_next set W t x top below o)
   found_still x top below None e = tt
   found_still x top below (Some found) e =
-      spent_still (found.2 && not (is_rewinding x.fiber)) x.done (next_by set W t (found.2 && not (is_rewinding x.fiber)) x (moves W top below x.heap)) (by_still x (found.2 && not (is_rewinding x.fiber)) (moves W top below x.heap) e)
+      let counts : Bool = found.2 && not (is_rewinding x.fiber) in
+      spent_still counts x.done (next_by set W t counts x top below (moves W top below x.heap)) (by_still x counts top below (moves W top below x.heap) e)
 
   pub still_pauses : (marks : List (List Bool)) (x : Standing) (top : Activation) (below : List Activation) → x.frames ≡ top ∷ below → is_pausing x.fiber ≡ true → StillPauses (next_of set W marks t x)
   unfolding next_of
@@ -215,8 +237,8 @@ module _ (set : Setting) (W : Program) (marks : List (List Bool)) where
     nothing_by (Ends why) d = let s = d acts [] in stops _ s.1
     nothing_by Stands d = stops _ (d acts [])
 
-  pub nothing_wanted : NoTables W → (t : ℕ) (x : Standing) (acts : List Act) (g : Fib) (w : World) (ps : List ℕ) (n : ℕ) → wsteps set W marks n (wstep set W marks (state_of t x [] acts (0 ∷ []))) ≡ Resting g w ps → WantsNothing (next_of set W marks t x)
-  nothing_wanted none t x acts g w ps n rests = nothing_by t (λ rest done pauses. wstep set W marks (state_of t x rest done pauses)) acts g w ps n rests (next_of set W marks t x) (machine_follows set W marks none t x)
+  pub nothing_wanted : (t : ℕ) (x : Standing) (acts : List Act) (g : Fib) (w : World) (ps : List ℕ) (n : ℕ) → wsteps set W marks n (wstep set W marks (state_of t x [] acts (0 ∷ []))) ≡ Resting g w ps → WantsNothing (next_of set W marks t x)
+  nothing_wanted t x acts g w ps n rests = nothing_by t (λ rest done pauses. wstep set W marks (state_of t x rest done pauses)) acts g w ps n rests (next_of set W marks t x) (machine_follows set W marks t x)
 
 pub nothing_alike : (p : Program) (a b : Next) → NextLike p a b → WantsNothing a → WantsNothing b
 nothing_alike p (Goes a) (Goes b) like e = tt
@@ -265,7 +287,7 @@ module _ (set : Setting) (W : Program) (marks : List (List Bool)) (served : CanS
   nothing_at (mine ∷ fs) same top below kin pauses comes =
       let r = comes pauses in
       let s = first_step mine fs r.0 r.2 r.3 in
-      nothing_wanted set W marks (none_woven set W marks served.run.keeps served.run.form served.run.well served.woven) t x (acts set W marks served t c x is.holds.reached) r.2 w (0 ∷ []) s.0
+      nothing_wanted set W marks t x (acts set W marks served t c x is.holds.reached) r.2 w (0 ∷ []) s.0
       (subst (λ (z : List Activation). wsteps set W marks s.0 (wstep set W marks (state_in z x.fiber w (0 ∷ []))) ≡ Resting r.2 w (0 ∷ [])) (sym same) s.1)
 
   pub pauses_on : HasFree set W marks t f → (top : Activation) (below : List Activation) → f.frames ≡ top ∷ below → is_pausing f.fiber ≡ true → IsUnwinding (next_of set W marks t f)

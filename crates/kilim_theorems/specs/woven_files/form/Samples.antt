@@ -12,7 +12,7 @@ use Rattle.kilim_class_pool.specs.declared.entry.Entry.{Entry}
 use Rattle.kilim_class_pool.specs.declared.entry.Entry.TheVariants as entry
 use Rattle.kilim_theorems.specs.link_examples.Examples.{a_class, a_file, a_pool, a_code, a_constructor, a_execute}
 use Rattle.kilim_theorems.specs.link_examples.Programs.{woven_execute}
-use Rattle.kilim_program.specs.BuiltIn.{method_id, class_type, built_in_classes_in, built_in_methods_in}
+use Rattle.kilim_program.specs.BuiltIn.{method_id, class_type, built_in_classes_in, built_in_fields, built_in_methods_in}
 use Rattle.kilim_program.specs.declared.class.Form.TheVariants.{Woven}
 use Rattle.kilim_program.specs.declared.class.Method.{Method}
 use Rattle.kilim_program.specs.declared.instr.Instr.TheVariants.{Aload, Astore, Invokevirtual, Invokestatic, Tableswitch, Ifeq, Iconst, Return, Goto}
@@ -82,9 +82,9 @@ loop_method = record woven_execute {
   max_locals = 4;
   code_length = 55;
   code =
-      (0, Aload 1) ∷ (1, Astore 2) ∷ (2, Aload 0) ∷ (3, Astore 3) ∷ (4, Aload 2) ∷ (5, Invokevirtual (method_id 33)) ∷ (8, Tableswitch 28 (pos 1) (52 ∷ []))
-      ∷ (28, Aload 2) ∷ (29, Invokevirtual (method_id 34)) ∷ (32, Invokestatic (method_id 18)) ∷ (35, Aload 2) ∷ (36, Invokevirtual (method_id 35)) ∷ (39, Ifeq 49)
-      ∷ (42, Iconst (pos 1)) ∷ (43, Aload 3) ∷ (44, Aload 2) ∷ (45, Invokestatic (method_id 39)) ∷ (48, Return) ∷ (49, Goto 28) ∷ (52, Goto 28) ∷ [];
+      (0, Aload 1) ∷ (1, Astore 2) ∷ (2, Aload 0) ∷ (3, Astore 3) ∷ (4, Aload 2) ∷ (5, Invokevirtual (method_id 45)) ∷ (8, Tableswitch 28 (pos 1) (52 ∷ []))
+      ∷ (28, Aload 2) ∷ (29, Invokevirtual (method_id 46)) ∷ (32, Invokestatic (method_id 18)) ∷ (35, Aload 2) ∷ (36, Invokevirtual (method_id 47)) ∷ (39, Ifeq 49)
+      ∷ (42, Iconst (pos 1)) ∷ (43, Aload 3) ∷ (44, Aload 2) ∷ (45, Invokestatic (method_id 51)) ∷ (48, Return) ∷ (49, Goto 28) ∷ (52, Goto 28) ∷ [];
   frames = (28, loop_frame) ∷ (49, loop_frame) ∷ (52, loop_frame) ∷ [];
 }
 
@@ -139,4 +139,4 @@ loop_expected = record a_file {
 
 -- the woven program
 abbrev pub loop_program : Program
-loop_program = record { classes = a_class ∷ built_in_classes_in Woven 1 2; methods = a_constructor ∷ loop_method ∷ built_in_methods_in Woven 1; fields = []; form = Woven }
+loop_program = record { classes = a_class ∷ built_in_classes_in Woven 1 2; methods = a_constructor ∷ loop_method ∷ built_in_methods_in Woven 1; fields = built_in_fields 1; form = Woven }

@@ -15,7 +15,7 @@ pub number_before-mine-requires : goal.number_before-mine-requires
 number_before-mine-requires c = let i = c.loop-left.invariant.1 in omega (arith, i)
 
 pub piece-requires : goal.piece-requires
-piece-requires c = c.in-Ok.ensures c.entry_of-entry.result.now c.entry_of-entry.ensures
+piece-requires c = c.frame_at-frame.ensures c.entry_of-entry.result.now c.entry_of-entry.ensures
 
 pub loop-left-init : goal.loop-left-init
 loop-left-init c =
@@ -44,5 +44,5 @@ loop-left-preserved c =
       number_is p code at n mine e c.entry_of-entry.ensures (c.loop-left.invariant.1 ∙ sym (ap (λ (k : ℕ). 1 + calls_in p (take k code)) one)) (sym (ap (λ (q : Option Method). count q mine) is_o) ∙ c.number_before-mine.ensures),
       piece_more x at n mine c.place_behind-next.result e o (items_of c.args.items.now) (items_of c.loop-left.items) (items_of c.piece.new.items) c.entry_of-entry.ensures is_o c.number_before-mine.ensures c.place_behind-next.ensures
           (c.loop-left.invariant.2 ∙ sym (ap (λ (k : ℕ). pieces x (first_here p code k) n (drop k code) (items_of c.args.items.now)) one))
-          (c.in-Ok-piece.ensures ∙ ap (λ (b : Bool). piece o x b mine e.0 c.place_behind-next.result e.1 (items_of c.loop-left.items)) c.is_first-first.ensures),
+          (c.in-Ok.ensures ∙ ap (λ (b : Bool). piece o x b mine e.0 c.place_behind-next.result e.1 (items_of c.loop-left.items)) c.is_first-first.ensures),
     )

@@ -13,7 +13,7 @@ pub number_before-mine-requires : goal.number_before-mine-requires
 number_before-mine-requires c = let i = c.loop-left.invariant.1 in omega (arith, i)
 
 pub block-requires : goal.block-requires
-block-requires c = c.in-Ok.ensures c.entry_of-entry.result.now c.entry_of-entry.ensures
+block-requires c = c.frame_at-frame.ensures c.entry_of-entry.result.now c.entry_of-entry.ensures
 
 pub loop-left-init : goal.loop-left-init
 loop-left-init c =
@@ -39,5 +39,5 @@ loop-left-preserved c =
       omega (arith, c.loop-left.invariant.0),
       number_is p code at n mine e c.entry_of-entry.ensures (c.loop-left.invariant.1 ∙ sym (ap (λ (k : ℕ). 1 + calls_in p (take k code)) one)) (sym (ap (λ (q : Option Method). count q mine) is_o) ∙ c.number_before-mine.ensures),
       block_more x at n mine c.place_behind-next.result e _ (items_of c.loop-left.items) (items_of c.block.new.items) c.entry_of-entry.ensures is_o c.number_before-mine.ensures c.place_behind-next.ensures
-          (c.loop-left.invariant.2 ∙ sym (ap (λ (k : ℕ). blocks x n (drop k code)) one)) c.in-Ok-block.ensures,
+          (c.loop-left.invariant.2 ∙ sym (ap (λ (k : ℕ). blocks x n (drop k code)) one)) c.in-Ok.ensures,
     )

@@ -132,11 +132,11 @@ module _ (P W : Program) (counted : List (List Bool)) (keeps : Keeps P) (plainly
   many : length P.classes ≡ own + 18
   many = how_many P W counted keeps plainly form
 
-  many_methods : length P.methods ≡ made + 31
+  many_methods : length P.methods ≡ made + 43
   many_methods = ap length keeps.built_in.methods ∙ (length-append keeps.built_in.own_methods (built_in_methods_in P.form own) ∙ ap (λ (f : Form). made + length (built_in_methods_in f own)) plainly)
 
   pub first_methods : first_method P ≡ made
-  first_methods = let e : first_method P ≡ length P.methods - 31 = refl in let n = many_methods in omega (arith, e, n)
+  first_methods = let e : first_method P ≡ length P.methods - 43 = refl in let n = many_methods in omega (arith, e, n)
 
   first_classes : first_class P ≡ own
   first_classes = let e : first_class P ≡ length P.classes - 18 = refl in let n = many in omega (arith, e, n)
@@ -201,8 +201,10 @@ module _ (P W : Program) (counted : List (List Bool)) (keeps : Keeps P) (plainly
   ends = record {
     own_classes = keeps.built_in.own_classes;
     own_methods = parts.front;
+    own_fields = keeps.built_in.own_fields;
     classes = classes_end ∙ (ap (λ (n : ℕ). keeps.built_in.own_classes ++ built_in_classes_in Woven own n) (sym parts.many) ∙ ap (λ (f : Form). keeps.built_in.own_classes ++ built_in_classes_in f own (length parts.front)) (sym form.form));
     methods = methods_end ∙ ap (λ (f : Form). parts.front ++ built_in_methods_in f own) (sym form.form);
+    fields = form.fields ∙ keeps.built_in.fields;
     bodies = bodies keeps.built_in.own_methods parts.front 0 parts.pairs begins keeps.built_in.bodies;
   }
 

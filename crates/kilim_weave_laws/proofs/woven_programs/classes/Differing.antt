@@ -125,10 +125,10 @@ module _ (P W : Program) (counted : List (List Bool)) (keeps : Keeps P) (plainly
   fiber_number : first_class P + 18 ≡ length P.classes
   fiber_number = let e = first_is P W counted keeps plainly form in let n = how_many P W counted keeps plainly form in omega (arith, e, n)
 
-  many : length P.methods ≡ first_method P + 31
+  many : length P.methods ≡ first_method P + 43
   many =
       let e = first_methods P W counted keeps plainly form in
-      let f : first_method P ≡ length P.methods - 31 = refl in
+      let f : first_method P ≡ length P.methods - 43 = refl in
       let h = ap length keeps.built_in.methods ∙ (length-append keeps.built_in.own_methods _ ∙ ap (λ f. length keeps.built_in.own_methods + length (Rattle.kilim_program.specs.BuiltIn.built_in_methods_in f (length keeps.built_in.own_classes))) plainly) in
       omega (arith, e, f, h)
 
@@ -196,9 +196,9 @@ module _ (P W : Program) (counted : List (List Bool)) (keeps : Keeps P) (plainly
       let none = owned_none (λ (m : Method). m.owner) c 0 P.methods (λ k m e z. let less = ltb-true m.owner.0 (length P.classes) (owner_there P keeps (method_id k) m e) in omega (arith, less, z)) in
       let is : first_class P + 18 ≡ 0 + length P.classes = (let n = fiber_number in omega (arith, n)) in
       let all = owned_every (λ (m : Method). m.owner) c (class_id (first_class P + 18)) (length P.methods) (fiber_methods Woven (first_class P)) (fiber_owned (first_class P)) is in
-      let members = owned_woven c ∙ (ap (λ (zs : List ℕ). zs ++ owned_from (λ (m : Method). m.owner) c (length P.methods) (fiber_methods Woven (first_class P))) none ∙ (all ∙ (ap (λ (n : ℕ). counting n 11) many ∙ counting_more (first_method P) 31 11))) in
+      let members = owned_woven c ∙ (ap (λ (zs : List ℕ). zs ++ owned_from (λ (m : Method). m.owner) c (length P.methods) (fiber_methods Woven (first_class P))) none ∙ (all ∙ (ap (λ (n : ℕ). counting n 11) many ∙ counting_more (first_method P) 43 11))) in
       and_from (bytes_eq [] (owned_from (λ (f : Field). f.owner) c 0 W.fields)) _ (same_text [] _ (sym fields))
-      (same_text (map (λ (m : MethodId). m.0) fiber.methods) _ (numbers_from (first_method P) (31 ∷ 32 ∷ 33 ∷ 34 ∷ 35 ∷ 36 ∷ 37 ∷ 38 ∷ 39 ∷ 40 ∷ 41 ∷ []) ∙ sym members))
+      (same_text (map (λ (m : MethodId). m.0) fiber.methods) _ (numbers_from (first_method P) (43 ∷ 44 ∷ 45 ∷ 46 ∷ 47 ∷ 48 ∷ 49 ∷ 50 ∷ 51 ∷ 52 ∷ 53 ∷ []) ∙ sym members))
 
   pub members : members_are_owned W ≡ true
   unfolding members_are_owned

@@ -6,25 +6,28 @@ use Rattle.kilim_program.specs.declared.ty.Qualifier.TheVariants.{Safe}
 use Rattle.kilim_program.specs.declared.ty.Ty.{Ty}
 use Rattle.std.proofs.lemmas.List.Sums.{sum_by-append}
 use Rattle.std.specs.Str.{bytes_eq}
-use Rattle.std.proofs.Common.{◌≡◌, ℕ, suc, ◌+◌, ◌-◌, ◌≤◌, Bool, true, false, eqb, not, List, [], ◌∷◌, Some, refl, sym, ap, subst, ◌∙◌, arith, eq-eqb, eqb-true, le-leb, cond, length, length-append, ◌++◌}
+use Rattle.std.proofs.Common.{◌≡◌, ℕ, suc, ◌+◌, ◌-◌, ◌≤◌, Bool, true, false, eqb, not, List, [], ◌∷◌, Option, None, Some, refl, sym, ap, subst, ◌∙◌, arith, eq-eqb, eqb-true, le-leb, cond, length, length-append, ◌++◌}
 use Rattle.std.specs.Prelude.{◌&&◌, ◌||◌, is_some, nat_lt, slice_get, sum_by, codes, nat_le}
 use Rattle.std.specs.List.{list_all}
-use Rattle.std.proofs.lemmas.Bool.{and_parts, and_from}
+use Rattle.std.proofs.lemmas.Bool.{and_parts, and_from, lt-ltb, ltb-true}
 use Rattle.kilim_program.specs.declared.class.Form.TheVariants.{Plain, Woven}
+use Rattle.kilim_program.specs.declared.class.Handler.{Handler}
 use Rattle.kilim_program.specs.declared.class.Method.{Method}
 use Rattle.kilim_program.specs.declared.instr.Instr.{Instr}
+use Rattle.kilim_program.specs.declared.names.ClassId.{ClassId}
 use Rattle.kilim_program.specs.declared.names.MethodId.{MethodId}
 use Rattle.kilim_program.specs.declared.verified.VType.{VType}
 use Rattle.kilim_program.specs.declared.verified.VType.TheVariants.{Top, Int, Long, Null, UninitThis, Uninit, Object}
-use Rattle.kilim_program.specs.BuiltIn.{fiber_methods, method_id}
-use Rattle.kilim_program.specs.Keeps.{Keeps, code_is_whole, frame_is_proper, frames_are_proper, method_is_sound}
+use Rattle.kilim_program.specs.BuiltIn.{fiber_classes, fiber_methods, method_id}
+use Rattle.kilim_program.specs.Handlers.{pauses_bare, table_stands}
+use Rattle.kilim_program.specs.Keeps.{Keeps, caught_there, code_is_whole, frame_is_proper, frames_are_proper, has_superclass, method_is_sound}
 use Rattle.kilim_program.specs.Lengths.{code_ends, code_stands, first_place, has_length, is_code_place, jump_targets, targets_stand, places_increase}
 use Rattle.kilim_program.specs.Names.{is_empty, method_at}
 use Rattle.kilim_program.specs.Program.{Program}
 use Rattle.kilim_program.specs.Same.{is_constructor, argument_slots, type_slots}
 use Rattle.kilim_type_spec.specs.Step.{made_at, peek}
 use Rattle.kilim_type_spec.specs.Typed.{IsWellTyped, frame_fits}
-use Rattle.kilim_weave_spec.specs.Form.{AllWoven, IsWoven, WovenForm, first_class, has_calls, plan_of, woven_as}
+use Rattle.kilim_weave_spec.specs.Form.{AllWoven, IsWoven, WovenForm, first_class, first_method, has_calls, plan_of, woven_as}
 use Rattle.kilim_weave_spec.specs.Weight.{calls_in}
 use Rattle.kilim_weave_spec.specs.Woven.{Plan, Item, Mark, Does, behind, lay, woven_items, fiber_ty}
 use Rattle.kilim_weave_laws.specs.woven_types.Theorem.{Weaving}
@@ -33,6 +36,7 @@ use Rattle.kilim_weave_laws.proofs.woven_types.Sane.{sane, sane_item}
 use Rattle.kilim_weave_laws.proofs.woven_types.Theorem.{frames_sane, proved}
 use Rattle.kilim_type_laws.proofs.members.FromKeeps.{all_at}
 use Rattle.kilim_weave_laws.specs.woven_programs.Law.{KeepsPauses}
+use Rattle.kilim_weave_laws.proofs.woven_programs.Handled.{none_pauses_with_table}
 use Rattle.kilim_weave_laws.proofs.woven_programs.Theorem.{weaving_of}
 use Rattle.kilim_weave_laws.specs.woven_programs.keeps.Law.{MethodsKeep, NoneIsTooLong, WovenMethodsKeep, reach, NoneIsFull}
 use Rattle.kilim_weave_laws.proofs.woven_programs.keeps.FromTypes.{typed_ends, typed_targets}
@@ -141,8 +145,14 @@ fiber_code : (n : ℕ) → list_all code_is_whole (fiber_methods Woven n) ≡ tr
 unfolding code_is_whole code_stands targets_stand code_ends
 fiber_code n = refl
 
-fiber_handlers : (n : ℕ) → list_all (λ m. is_empty m.handlers) (fiber_methods Woven n) ≡ true
+fiber_handlers : (n : ℕ) → list_all table_stands (fiber_methods Woven n) ≡ true
 fiber_handlers n = refl
+
+fiber_catches : (p : Program) (n : ℕ) → list_all (caught_there p) (fiber_methods Woven n) ≡ true
+fiber_catches p n = refl
+
+fiber_paused : (n : ℕ) → list_all pauses_bare (fiber_methods Woven n) ≡ true
+fiber_paused n = refl
 
 fiber_frames : (n : ℕ) → list_all (λ m. places_increase m.frames) (fiber_methods Woven n) ≡ true
 unfolding places_increase
@@ -175,10 +185,39 @@ module _ (P W : Program) (counted : List (List Bool)) (keeps : Keeps P) (plainly
       let most = short id a at is c in
       whole_woven (plan_of P a w.0 w.1 w.2) W b v c (omega (arith, less, most))
 
-  handlers_case : (id : MethodId) (a b : Method) (marks : List Bool) (z calls : Bool) → method_at P id ≡ Some a → woven_as z calls P a b marks → is_empty b.handlers ≡ true
-  handlers_case id a b marks false calls at w = ap (λ (m : Method). is_empty m.handlers) w.0 ∙ all_at (λ m. is_empty m.handlers) P.methods id.0 a keeps.handlers at
-  handlers_case id a b marks true false at w = ap (λ (m : Method). is_empty m.handlers) w.0 ∙ all_at (λ m. is_empty m.handlers) P.methods id.0 a keeps.handlers at
-  handlers_case id a b marks true true at w = ap (λ (m : Method). is_empty m.handlers) w.4.method ∙ all_at (λ m. is_empty m.handlers) P.methods id.0 a keeps.handlers at
+  -- one that pauses has no table
+  bare : (id : MethodId) (a : Method) → method_at P id ≡ Some a → a.pausable ≡ true → is_empty a.handlers ≡ true
+  bare id a at pausable = none_pauses_with_table P keeps id a at pausable
+
+  none_stand : (test : Handler → Bool) (hs : List Handler) → is_empty hs ≡ true → list_all test hs ≡ true
+  none_stand test [] e = refl
+  none_stand test (h ∷ hs) e = absurd (cc)
+
+  handlers_case : (id : MethodId) (a b : Method) (marks : List Bool) (z calls : Bool) → method_at P id ≡ Some a → a.pausable ≡ z → woven_as z calls P a b marks → table_stands b ≡ true
+  handlers_case id a b marks false calls at is w = ap table_stands w.0 ∙ all_at table_stands P.methods id.0 a keeps.handlers at
+  handlers_case id a b marks true false at is w = ap table_stands w.0 ∙ all_at table_stands P.methods id.0 a keeps.handlers at
+  handlers_case id a b marks true true at is w = ap table_stands w.4.method ∙ none_stand _ a.handlers (bare id a at is)
+
+  paused_case : (id : MethodId) (a b : Method) (marks : List Bool) (z calls : Bool) → method_at P id ≡ Some a → woven_as z calls P a b marks → pauses_bare b ≡ true
+  paused_case id a b marks false calls at w = ap pauses_bare w.0 ∙ all_at pauses_bare P.methods id.0 a keeps.paused at
+  paused_case id a b marks true false at w = ap pauses_bare w.0 ∙ all_at pauses_bare P.methods id.0 a keeps.paused at
+  paused_case id a b marks true true at w = ap pauses_bare w.4.method ∙ all_at pauses_bare P.methods id.0 a keeps.paused at
+
+  -- the classes of the plain program are there
+  class_kept : (o : Option ClassId) → has_superclass P o ≡ true → has_superclass W o ≡ true
+  class_kept None e = refl
+  class_kept (Some c) e =
+      let less = ltb-true c.0 (length P.classes) e in
+      let more = ap length form.classes ∙ length-append P.classes (fiber_classes Woven (first_class P) (first_method P)) in
+      lt-ltb c.0 (length W.classes) (omega (arith, less, more))
+
+  kept_there : (a : Method) → caught_there P a ≡ true → caught_there W a ≡ true
+  kept_there a e = all_kept (λ (h : Handler). has_superclass P h.catch) (λ (h : Handler). has_superclass W h.catch) (λ h. class_kept h.catch) a.handlers e
+
+  catches_case : (id : MethodId) (a b : Method) (marks : List Bool) (z calls : Bool) → method_at P id ≡ Some a → woven_as z calls P a b marks → caught_there W b ≡ true
+  catches_case id a b marks false calls at w = ap (caught_there W) w.0 ∙ kept_there a (all_at (caught_there P) P.methods id.0 a keeps.catches at)
+  catches_case id a b marks true false at w = ap (caught_there W) w.0 ∙ kept_there a (all_at (caught_there P) P.methods id.0 a keeps.catches at)
+  catches_case id a b marks true true at w = ap (caught_there W) w.4.method ∙ kept_there a (all_at (caught_there P) P.methods id.0 a keeps.catches at)
 
   frames_case : (id : MethodId) (a b : Method) (marks : List Bool) (z calls : Bool) → method_at P id ≡ Some a → a.pausable ≡ z → has_calls P a ≡ calls → woven_as z calls P a b marks → places_increase b.frames ≡ true
   frames_case id a b marks false calls at is c w = ap (λ (m : Method). places_increase m.frames) w.0 ∙ all_at (λ m. places_increase m.frames) P.methods id.0 a keeps.frames at
@@ -243,7 +282,9 @@ module _ (P W : Program) (counted : List (List Bool)) (keeps : Keeps P) (plainly
     frames = all_of (λ m. places_increase m.frames) (fiber_frames (first_class P)) P.methods W.methods counted 0 form.methods begins (λ id a b marks at is. frames_case id a b marks a.pausable (has_calls P a) at refl refl is);
     frame_types = all_of frames_are_proper (fiber_types (first_class P)) P.methods W.methods counted 0 form.methods begins (λ id a b marks at is. types_case id a b marks a.pausable (has_calls P a) at refl refl is);
     methods = all_of method_is_sound (fiber_sound (first_class P)) P.methods W.methods counted 0 form.methods begins (λ id a b marks at is. sound_case id a b marks a.pausable (has_calls P a) at refl refl is);
-    handlers = all_of (λ m. is_empty m.handlers) (fiber_handlers (first_class P)) P.methods W.methods counted 0 form.methods begins (λ id a b marks at is. handlers_case id a b marks a.pausable (has_calls P a) at is);
+    handlers = all_of table_stands (fiber_handlers (first_class P)) P.methods W.methods counted 0 form.methods begins (λ id a b marks at is. handlers_case id a b marks a.pausable (has_calls P a) at refl is);
+    catches = all_of (caught_there W) (fiber_catches W (first_class P)) P.methods W.methods counted 0 form.methods begins (λ id a b marks at is. catches_case id a b marks a.pausable (has_calls P a) at is);
+    paused = all_of pauses_bare (fiber_paused (first_class P)) P.methods W.methods counted 0 form.methods begins (λ id a b marks at is. paused_case id a b marks a.pausable (has_calls P a) at is);
   }
 
 pub woven_methods : WovenMethodsKeep

@@ -63,10 +63,10 @@ module _ (P W : Program) (counted : List (List Bool)) (keeps : Keeps P) (plainly
   first_less : first_class P + 18 ≡ length P.classes
   first_less = let e = first_is P W counted keeps plainly form in let n = how_many P W counted keeps plainly form in omega (arith, e, n)
 
-  many_methods : length P.methods ≡ first_method P + 31
+  many_methods : length P.methods ≡ first_method P + 43
   many_methods =
       let e = first_methods P W counted keeps plainly form in
-      let f : first_method P ≡ length P.methods - 31 = refl in
+      let f : first_method P ≡ length P.methods - 43 = refl in
       let h = ap length keeps.built_in.methods ∙ (length-append keeps.built_in.own_methods _ ∙ ap (λ f. length keeps.built_in.own_methods + length (built_in_methods_in f (length keeps.built_in.own_classes))) plainly) in
       omega (arith, e, f, h)
 
@@ -260,11 +260,11 @@ module _ (P W : Program) (counted : List (List Bool)) (keeps : Keeps P) (plainly
       and_from (has_superclass W c.superclass) _ (superclass_more c.superclass p.0)
       (and_from (list_all (has_field W) c.fields) _ (all_kept (has_field P) (has_field W) field_more c.fields q.0) (all_kept (has_method P) (has_method W) method_more c.methods q.1))
 
-  members_from : (ks : List ℕ) → list_all (λ k. nat_lt k 42) ks ≡ true → list_all (has_method W) (methods_from (first_method P) ks) ≡ true
+  members_from : (ks : List ℕ) → list_all (λ k. nat_lt k 54) ks ≡ true → list_all (has_method W) (methods_from (first_method P) ks) ≡ true
   members_from [] h = refl
   members_from (k ∷ ks) h =
-      let p = and_parts (nat_lt k 42) _ h in
-      let l = ltb-true k 42 p.0 in
+      let p = and_parts (nat_lt k 54) _ h in
+      let l = ltb-true k 54 p.0 in
       let a = all_methods in
       let n = many_methods in
       and_from (has_method W (method_id (first_method P + k))) _ (lt-ltb (first_method P + k) (length W.methods) (omega (arith, l, a, n))) (members_from ks p.1)
@@ -274,7 +274,7 @@ module _ (P W : Program) (counted : List (List Bool)) (keeps : Keeps P) (plainly
       ap (list_all (class_ids_there W)) more
       ∙ all_joined (class_ids_there W) P.classes (new ∷ []) (all_kept (class_ids_there P) (class_ids_there W) ids_more P.classes parts_of.0)
       (and_from (class_ids_there W new) true
-      (and_from (nat_lt (first_class P) (length W.classes)) _ object_less (members_from (31 ∷ 32 ∷ 33 ∷ 34 ∷ 35 ∷ 36 ∷ 37 ∷ 38 ∷ 39 ∷ 40 ∷ 41 ∷ []) refl)) refl)
+      (and_from (nat_lt (first_class P) (length W.classes)) _ object_less (members_from (43 ∷ 44 ∷ 45 ∷ 46 ∷ 47 ∷ 48 ∷ 49 ∷ 50 ∷ 51 ∷ 52 ∷ 53 ∷ []) refl)) refl)
 
   fields_are : list_all (λ f. has_class W f.owner) W.fields ≡ true
   fields_are = ap (list_all (λ (f : Field). has_class W f.owner)) form.fields ∙ all_kept (λ (f : Field). has_class P f.owner) (λ f. has_class W f.owner) (λ f h. class_more f.owner h) P.fields parts_of.1

@@ -353,28 +353,28 @@ module _ (P W : Program) (counted : List (List Bool)) (keeps : Keeps P) (plainly
       sym (get_right r.0 (fiber_methods Woven (first_class P)) x.0 k (omega (arith, n, past))) ∙ (sym (ap (λ (ms : List Method). slice_get ms x.0) r.1) ∙ at) in
       not-true m.is_abstract (all_at (λ m. not m.is_abstract) (fiber_methods Woven (first_class P)) k m (fiber_concrete (first_class P)) there)
 
-  many_methods : length P.methods ≡ first_method P + 31
+  many_methods : length P.methods ≡ first_method P + 43
   many_methods =
       let e = first_methods P W counted keeps plainly form in
-      let f : first_method P ≡ length P.methods - 31 = refl in
+      let f : first_method P ≡ length P.methods - 43 = refl in
       let h = ap length keeps.built_in.methods ∙ (length-append keeps.built_in.own_methods _ ∙ ap (λ f. length keeps.built_in.own_methods + length (built_in_methods_in f (length keeps.built_in.own_classes))) plainly) in
       omega (arith, e, f, h)
 
-  none_of_fiber : (c : ClassId) (ks : List ℕ) → list_all (nat_le 31) ks ≡ true → list_any (λ m. is_left_abstract W c m (method_at W m)) (methods_from (first_method P) ks ++ made ∷ []) ≡ false
+  none_of_fiber : (c : ClassId) (ks : List ℕ) → list_all (nat_le 43) ks ≡ true → list_any (λ m. is_left_abstract W c m (method_at W m)) (methods_from (first_method P) ks ++ made ∷ []) ≡ false
   none_of_fiber c [] h =
       let w = woven made made_there.0 made_there.1 in
       or_from (is_left_abstract W c made (method_at W made)) false (concrete_by c made (method_at W made) (λ m e. let s : w.0 ≡ m = (let t : Some w.0 ≡ Some m = sym w.1 ∙ e in cc) in ap (λ (z : Method). z.is_abstract) (sym s) ∙ (w.2.is_abstract ∙ made_there.3))) refl
   none_of_fiber c (k ∷ ks) h =
-      let p = and_parts (nat_le 31 k) _ h in
+      let p = and_parts (nat_le 43 k) _ h in
       let x = method_id (first_method P + k) in
       let n = many_methods in
-      let l = leb-true 31 k p.0 in
+      let l = leb-true 43 k p.0 in
       or_from (is_left_abstract W c x (method_at W x)) _ (concrete_by c x (method_at W x) (λ m e. behind x m (omega (arith, n, l)) e)) (none_of_fiber c ks p.1)
 
   fiber_left : list_any (λ m. is_left_abstract W last m (method_at W m)) (flat_map (methods_of W) (line_of W last)) ≡ false
   fiber_left =
       ap (list_any (λ m. is_left_abstract W last m (method_at W m))) line
-      ∙ none_of_fiber last (31 ∷ 32 ∷ 33 ∷ 34 ∷ 35 ∷ 36 ∷ 37 ∷ 38 ∷ 39 ∷ 40 ∷ 41 ∷ []) refl
+      ∙ none_of_fiber last (43 ∷ 44 ∷ 45 ∷ 46 ∷ 47 ∷ 48 ∷ 49 ∷ 50 ∷ 51 ∷ 52 ∷ 53 ∷ []) refl
     where
       number : 0 + length P.classes ≡ length P.classes
       number = omega arith
@@ -386,11 +386,11 @@ module _ (P W : Program) (counted : List (List Bool)) (keeps : Keeps P) (plainly
           ∙ (line_methods (length P.classes) object object_is_in
           ∙ (ap (λ (n : ℕ). flat_map (methods_of P) (line_up_to P n object)) many ∙ object_methods (length keeps.built_in.own_classes + 17)))
 
-      line : flat_map (methods_of W) (line_of W last) ≡ methods_from (first_method P) (31 ∷ 32 ∷ 33 ∷ 34 ∷ 35 ∷ 36 ∷ 37 ∷ 38 ∷ 39 ∷ 40 ∷ 41 ∷ []) ++ made ∷ []
+      line : flat_map (methods_of W) (line_of W last) ≡ methods_from (first_method P) (43 ∷ 44 ∷ 45 ∷ 46 ∷ 47 ∷ 48 ∷ 49 ∷ 50 ∷ 51 ∷ 52 ∷ 53 ∷ []) ++ made ∷ []
       line =
           ap (λ (n : ℕ). flat_map (methods_of W) (line_up_to W n last)) (one_more P W fiber more)
           ∙ (ap (λ (o : Option Class). elim o [ None ↦ [] | Some class ↦ class.methods ] ++ flat_map (methods_of W) (elim (o >>= λ (class : Class). class.superclass) [ None ↦ [] | Some u ↦ line_up_to W (length P.classes) u ])) (fiber_there (0 + length P.classes) number)
-          ∙ ap (λ (ms : List MethodId). methods_from (first_method P) (31 ∷ 32 ∷ 33 ∷ 34 ∷ 35 ∷ 36 ∷ 37 ∷ 38 ∷ 39 ∷ 40 ∷ 41 ∷ []) ++ ms) object_again)
+          ∙ ap (λ (ms : List MethodId). methods_from (first_method P) (43 ∷ 44 ∷ 45 ∷ 46 ∷ 47 ∷ 48 ∷ 49 ∷ 50 ∷ 51 ∷ 52 ∷ 53 ∷ []) ++ ms) object_again)
 
   abstract_left : none_is_left_abstract W ≡ true
   unfolding none_is_left_abstract

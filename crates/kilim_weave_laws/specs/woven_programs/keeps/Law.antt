@@ -4,9 +4,10 @@ use Rattle.std.specs.List.{list_all}
 use Rattle.kilim_program.specs.declared.class.Form.TheVariants.{Plain}
 use Rattle.kilim_program.specs.declared.class.Method.{Method}
 use Rattle.kilim_program.specs.declared.names.MethodId.{MethodId}
-use Rattle.kilim_program.specs.Keeps.{Keeps, code_is_whole, frames_are_proper, method_is_sound}
+use Rattle.kilim_program.specs.Handlers.{pauses_bare, table_stands}
+use Rattle.kilim_program.specs.Keeps.{Keeps, caught_there, code_is_whole, frames_are_proper, method_is_sound}
 use Rattle.kilim_program.specs.Lengths.{places_increase}
-use Rattle.kilim_program.specs.Names.{is_empty, method_at}
+use Rattle.kilim_program.specs.Names.{method_at}
 use Rattle.kilim_program.specs.Program.{Program}
 use Rattle.kilim_program.specs.Same.{argument_slots}
 use Rattle.kilim_type_spec.specs.Typed.{IsWellTyped}
@@ -34,7 +35,9 @@ pub record MethodsKeep (w : Program) : Type 0 where
   pub frames : list_all (λ m. places_increase m.frames) w.methods ≡ true
   pub frame_types : list_all frames_are_proper w.methods ≡ true
   pub methods : list_all method_is_sound w.methods ≡ true
-  pub handlers : list_all (λ m. is_empty m.handlers) w.methods ≡ true
+  pub handlers : list_all table_stands w.methods ≡ true
+  pub catches : list_all (caught_there w) w.methods ≡ true
+  pub paused : list_all pauses_bare w.methods ≡ true
 
 abbrev pub WovenMethodsKeep : Type 0
 WovenMethodsKeep =

@@ -13,7 +13,7 @@ pub returns : goal.returns
 returns c =
     let pool = c.args.pool.now in
     let name = c.args.name.now in
-    let there : is_text name (entry_at pool (text_index pool name)) ≡ true = passes (is_text name) pool (λ h. c.if-text-eq0.false (c.text_index-text.ensures ∙ h)) in
+    let there : is_text name (entry_at pool (text_index pool name)) ≡ true = passes (is_text name) pool c.requires in
     on_ok c.append.result
     (λ added.
     put (is_class_of pool name) pool c.append.new.pool (Class c.text_index-text.result) (sym c.class_index.ensures ∙ c.if-class_index-ne0.false) added (ap (λ i. is_text name (entry_at pool i)) c.text_index-text.ensures ∙ there)

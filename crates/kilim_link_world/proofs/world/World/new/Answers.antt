@@ -1,4 +1,4 @@
-use Rattle.std.proofs.Common.{◌<◌, ◌^◌, List, sym, subst}
+use Rattle.std.proofs.Common.{suc, ◌<◌, ◌^◌, List, sym, subst}
 use Rattle.std.specs.Prelude.{sum_by}
 use Rattle.kilim_link_spec.specs.declared.view.ClassView.{ClassView}
 use Rattle.kilim_link_spec.specs.World.{world_of}
@@ -12,7 +12,7 @@ of_views-requires-clause-methods_fit c =
 
 pub of_views-requires-clause-fields_fit : goal.of_views-requires-clause-fields_fit
 of_views-requires-clause-fields_fit c =
-    subst (λ (vs : List ClassView). sum_by field_count vs < 2 ^ 32) (sym c.in-Ok.ensures) (fields_fit c.args.files.now c.args.form c.requires.few c.requires.sized)
+    subst (λ (vs : List ClassView). suc (sum_by field_count vs) < 2 ^ 32) (sym c.in-Ok.ensures) (fields_fit c.args.files.now c.args.form c.requires.few c.requires.sized)
 
 pub returns : goal.returns
 unfolding world_of

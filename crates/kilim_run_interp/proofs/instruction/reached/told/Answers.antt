@@ -8,3 +8,6 @@ returns-in-Invokestatic c = rw c.in-Invokestatic.is c.told_static.ensures
 
 pub returns-in-Invokevirtual : goal.returns-in-Invokevirtual
 returns-in-Invokevirtual c = rw c.in-Invokevirtual.is c.told_virtual.ensures
+
+pub told_virtual-requires : goal.told_virtual-requires
+told_virtual-requires c = record { table = c.requires.table; fine = rw c.in-Invokevirtual.is at c.requires.fine }

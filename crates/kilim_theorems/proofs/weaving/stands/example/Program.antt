@@ -37,7 +37,9 @@ loop_keeps = record {
   frames = refl;
   frame_types = refl;
   handlers = refl;
-  built_in = record { own_classes = sample_class (codes "T") 5 false (method_id 0 ∷ method_id 1 ∷ []) ∷ []; own_methods = sample_constructor 0 6 ∷ loop_execute ∷ []; classes = refl; methods = refl; bodies = refl };
+  catches = refl;
+  paused = refl;
+  built_in = record { own_classes = sample_class (codes "T") 5 false (method_id 0 ∷ method_id 1 ∷ []) ∷ []; own_methods = sample_constructor 0 6 ∷ loop_execute ∷ []; own_fields = []; classes = refl; methods = refl; fields = refl; bodies = refl };
   members = refl;
   names = refl;
   class_names = refl;

@@ -1,13 +1,15 @@
 -- The first thread comes to four states, and all that is known of a thread is so of them.
-use Rattle.std.proofs.Common.{◌≡◌, ℕ, cond, eqb, zero, suc, ◌≤◌, Bool, true, false, Option, Some, None, List, [], ◌∷◌, length, refl, sym, ap, subst, ◌∙◌, arith}
+use Rattle.std.proofs.Common.{◌≡◌, ℕ, cond, eqb, zero, suc, ◌<◌, ◌≤◌, Bool, true, false, Option, Some, None, List, [], ◌∷◌, length, refl, sym, ap, subst, ◌∙◌, arith}
 use Rattle.std.specs.Prelude.{if◌then◌else◌, drop, ◌&&◌}
 use Rattle.std.specs.FinMap.{empty, get, get-empty}
 use Rattle.std.proofs.lemmas.Bool.{false≢true}
 use Rattle.std.proofs.lemmas.Option.{none-some, same_Some}
+use Rattle.kilim_run_state.specs.declared.cause.EndCause.{EndCause}
 use Rattle.kilim_run_state.specs.declared.cause.EndCause.TheVariants as cause
 use Rattle.kilim_program.specs.declared.class.Method.{Method}
 use Rattle.kilim_program.specs.declared.instr.Instr.{Instr}
 use Rattle.kilim_program.specs.declared.instr.Instr.TheVariants.{Goto, Invokestatic}
+use Rattle.kilim_program.specs.declared.names.ClassId.{ClassId}
 use Rattle.kilim_program.specs.declared.names.MethodId.{MethodId}
 use Rattle.kilim_run_state.specs.declared.value.Object.{Object}
 use Rattle.kilim_program.specs.declared.value.Value.{Value}
@@ -19,7 +21,7 @@ use Rattle.kilim_program.specs.Names.{method_at, ◌>>=◌}
 use Rattle.kilim_program.specs.Same.{argument_slots}
 use Rattle.kilim_lemmas.proofs.Maps.{put_there, put_other}
 use Rattle.kilim_run_machine.specs.Does.{does}
-use Rattle.kilim_run_machine.specs.Effect.{Effect, Calls, Asks}
+use Rattle.kilim_run_machine.specs.Effect.{Effect, Calls, Asks, Throws}
 use Rattle.kilim_run_state.specs.Machine.{Objects}
 use Rattle.kilim_program.specs.Members.{execute_of}
 use Rattle.kilim_run_machine.specs.Natives.{Native, native_of}
@@ -90,11 +92,15 @@ along P j i a b e x = subst (λ (z : Instr × ℕ). P z.0 z.1) (same_Some (j, a)
 abbrev yields : Instr
 yields = Invokestatic (method_id 18)
 
--- ---- no method is called that has code
+-- ---- no method is called that has code, and nothing is thrown
 
 abbrev is_call : Effect → Bool
 is_call (Calls c args p l s heap) = true
 is_call e = false
+
+abbrev is_throw : Effect → Bool
+is_throw (Throws object class why) = true
+is_throw e = false
 
 abbrev is_lost : Thread → Bool
 is_lost (Stop Lost) = true
@@ -301,6 +307,22 @@ module _ (form : Forms two_steps woven_loop woven_loop_marks) (facts : (m : Meth
   giving : (j i : Instr) (a to : ℕ) → GivesWhole loop loop one_object (does loop (own_of loop (method_id 1)) j a (Ref 0 ∷ []) [] one_object) → behind j a ≡ behind i to → GivesWhole loop loop one_object (does loop (own_of loop (method_id 1)) i to (Ref 0 ∷ []) [] one_object)
   giving j i a to r e = along (λ i to. GivesWhole loop loop one_object (does loop (own_of loop (method_id 1)) i to (Ref 0 ∷ []) [] one_object)) j i a to e r
 
+  abbrev Throwing : Thread → Type 0
+  Throwing (Run m p l s x b w) = (to n : ℕ) (i : Instr) (c : ClassId) (why : EndCause) → fetch loop m p ≡ Some (i, to) → does loop (own_of loop m) i to l s w.heap ≡ Throws n c why → c.0 < length loop.classes
+  Throwing (Stop over) = Unit {0}
+
+  throws_none : (j i : Instr) (a to n : ℕ) (c : ClassId) (why : EndCause) → is_throw (does loop loop_execute j a (Ref 0 ∷ []) [] one_object) ≡ false → behind j a ≡ behind i to → does loop loop_execute i to (Ref 0 ∷ []) [] one_object ≡ Throws n c why
+      → c.0 < length loop.classes
+  throws_none j i a to n c why none e d = absurd (false≢true (sym (along (λ i to. is_throw (does loop loop_execute i to (Ref 0 ∷ []) [] one_object) ≡ false) j i a to e none) ∙ ap is_throw d))
+
+  yield_throws_none : is_throw (does loop loop_execute yields 3 (Ref 0 ∷ []) [] one_object) ≡ false
+  unfolding does
+  yield_throws_none = refl
+
+  goto_throws_none : is_throw (does loop loop_execute (Goto 0) 6 (Ref 0 ∷ []) [] one_object) ≡ false
+  unfolding does
+  goto_throws_none = refl
+
   abbrev Few : Thread → Type 0
   Few (Run m p l s x b w) = suc (length b) ≤ 512
   Few (Stop over) = Unit {0}
@@ -348,6 +370,11 @@ module _ (form : Forms two_steps woven_loop woven_loop_marks) (facts : (m : Meth
     low = λ m p l s x b w f. at_each Low low low low tt (Run m p l s x b w) f;
     room = λ m p to i l s x b w f g. at_each Roomy (λ to i e. roomy yields i 3 to yield_fits e) (λ to i e. roomy (Goto 0) i 6 to goto_fits e) (λ to i e. roomy yields i 3 to yield_fits e) tt (Run m p l s x b w) f to i g;
     gives = λ m p to i l s x b w f g. at_each Giving (λ to i e. giving yields i 3 to yield_gives e) (λ to i e. giving (Goto 0) i 6 to goto_gives e) (λ to i e. giving yields i 3 to yield_gives e) tt (Run m p l s x b w) f to i g;
+    throws = λ m p to i l s x b w n c why f e d. at_each Throwing
+        (λ to n i c why e d. throws_none yields i 3 to n c why yield_throws_none e d)
+        (λ to n i c why e d. throws_none (Goto 0) i 6 to n c why goto_throws_none e d)
+        (λ to n i c why e d. throws_none yields i 3 to n c why yield_throws_none e d)
+        tt (Run m p l s x b w) f to n i c why e d;
     few_frames = λ m p l s x b w f. at_each Few few few few tt (Run m p l s x b w) f;
   }
     where

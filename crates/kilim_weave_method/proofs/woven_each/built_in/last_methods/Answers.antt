@@ -5,5 +5,5 @@ use Rattle.kilim_weave_method.proofs.woven_each.built_in.last_methods.Goals as g
 pub returns : goal.returns
 returns c =
     let methods = c.args.methods.now in
-    let many = length-drop 31 methods in
-    take_all (length methods - 31) (drop 31 methods) (omega (arith, many))
+    let many = length-drop 43 methods in
+    take_all (length methods - 43) (drop 43 methods) (omega (arith, many))

@@ -1,0 +1,6 @@
+import kilim.*;
+
+public class N implements Message {
+    int v;
+    N next;
+}
