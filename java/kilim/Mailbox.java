@@ -1,10 +1,12 @@
 package kilim;
 
 /**
- * A queue of messages, by which tasks speak with each other. It takes any number of messages, or as many as it was made for. It is a value: a message and a task may hold one, and several
- * tasks may have the same one. Whoever makes it names it, as {@code 0.1} for the second mailbox of the task 0.
+ * A queue of messages, by which tasks speak with each other. It takes any number of messages, or as many as it was made for. It is a
+ * value: a message and a task may hold one, and several tasks may have the same one. Whoever makes it names it, as {@code 0.1} for the
+ * second mailbox of the task 0.
  *
- * <p>A call on a null mailbox ends the task, as {@code end null}. A cast of what comes to another class ends it, as {@code end cast}.
+ * <p>A call on a null mailbox ends the task, as {@code end null}. A cast of what comes to another class ends it, as {@code end cast}. An
+ * end as {@code null}, {@code size} or {@code cast} is an exception of Java that nothing caught.
  */
 public final class Mailbox {
     /** Makes an empty mailbox. The 1,001st of a task ends the task, as {@code end boxes}. */

@@ -1,6 +1,9 @@
 package kilim;
 
-/** What a task may ask of the outside. Each print is a line of the journal, behind the number of its task. */
+/**
+ * What a task may ask of the outside. Each print is a line of the journal, behind the number of its task. An end as {@code null} or
+ * {@code index} is an exception of Java that nothing caught.
+ */
 public final class Sys {
     /** Nobody makes one. */
     private Sys() {}
