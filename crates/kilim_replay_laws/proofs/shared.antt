@@ -4,3 +4,5 @@ pub mod Full
 pub mod Closed
 pub mod Shared
 pub mod Going
+pub mod Begun
+pub mod Calls

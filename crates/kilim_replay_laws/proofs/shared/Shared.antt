@@ -5,13 +5,12 @@ use Rattle.std.specs.FinMap.{get}
 use Rattle.std.proofs.lemmas.Bool.{and_parts, eqb-true}
 use Rattle.std.proofs.lemmas.Bool.Decides.{eqb_tells}
 use Rattle.kilim_lemmas.proofs.Lists.{set_there, set_other}
-use Rattle.kilim_program.specs.Names.{◌>>=◌, class_at, is_task, method_at}
+use Rattle.kilim_program.specs.Names.{◌>>=◌, class_at, is_task}
 use Rattle.kilim_program.specs.Program.{Program}
 use Rattle.kilim_program.specs.BuiltIn.{class_type}
 use Rattle.kilim_program.specs.declared.class.Method.{Method}
 use Rattle.kilim_program.specs.declared.names.BoxName.{BoxName}
 use Rattle.kilim_program.specs.declared.names.ClassId.{ClassId}
-use Rattle.kilim_program.specs.declared.names.MethodId.{MethodId}
 use Rattle.kilim_run_state.specs.declared.cause.EndCause.{EndCause}
 use Rattle.kilim_run_state.specs.declared.cause.EndCause.TheVariants as cause
 use Rattle.kilim_run_state.specs.declared.value.Object.{Object as HeapObject}
@@ -24,14 +23,14 @@ use Rattle.kilim_program.specs.declared.value.Value.TheVariants.{Int, Long, Null
 use Rattle.kilim_program.specs.declared.verified.VType.{VType}
 use Rattle.kilim_program.specs.declared.verified.VType.TheVariants as vt
 use Rattle.kilim_run_state.specs.Machine.{Objects, Activation}
-use Rattle.kilim_program.specs.Members.{constructor_of, execute_of, is_concrete, is_own_constructor}
+use Rattle.kilim_program.specs.Members.{constructor_of, execute_of, is_concrete}
 use Rattle.kilim_run_state.specs.Trees.{OfTask, is_root}
 use Rattle.kilim_run_journal.specs.declared.entry.Act.TheVariants.{End}
 use Rattle.kilim_type_spec.specs.Step.{vtype}
 use Rattle.kilim_type_sound.specs.Fits.{Classes, ContentFits, Fits, FramesFit, HeapFits, Nothing, Typing, Wanted, AreThere, IsThere, has_objects, has_type, have_types, is_of, is_made, refers}
 use Rattle.kilim_type_sound.specs.Law.{Extends}
 use Rattle.kilim_type_sound.proofs.Grown.{frames_grown}
-use Rattle.kilim_run_model.specs.State.{Setting, Thread, Alive, State, Mailbox, bounded, is_full, begun_on, begun_in, class_of, execute_frames, first_state, is_fit, new_thread, same_box, with_mailbox, with_message, with_queue}
+use Rattle.kilim_run_model.specs.State.{Setting, Thread, Alive, State, Mailbox, bounded, is_full, begun_on, class_of, execute_frames, first_state, is_fit, new_thread, same_box, with_mailbox, with_message, with_queue}
 use Rattle.kilim_run_model.specs.Lone.{Lone, Next, Goes, Puts, PutWaits, Bounds, Gets, Probes, Starts, Prints, Ends, Stands, ended, next_move, pushed}
 use Rattle.kilim_run_model.specs.Turn.{Moved, acted, puts, quiet, kept_by, lone_of, with_lone, takes, gets, probes, starts, starts_with, task_limit, moved_by, thread_moved, moved}
 use Rattle.kilim_run_model.specs.Course.{lone_begun, lone_in}
@@ -49,7 +48,9 @@ use Rattle.kilim_type_sound.proofs.Theorem.{moves_fit}
 use Rattle.kilim_run_machine.specs.Moves.{Move, moves}
 use Rattle.kilim_run_machine.specs.Moves as move
 use Rattle.kilim_replay_laws.proofs.shared.Closed.{all_there, closed, suits}
-use Rattle.kilim_replay_laws.specs.shared.Shared.{AskedAreThere, Serves, IsFull, AreOf, SharedFits, IsTypedState, VerifiedIsShared}
+use Rattle.kilim_replay_laws.specs.shared.Shared.{AskedAreThere, AskedIsFine, Serves, IsFull, AreOf, SharedFits, IsTypedState, VerifiedIsShared}
+use Rattle.kilim_replay_laws.proofs.shared.Begun.{constructs, task_begun}
+use Rattle.kilim_replay_laws.proofs.shared.Calls.{calls_fine}
 use Rattle.kilim_replay_laws.proofs.shared.Full.{FullL, NextFull, next_full}
 use Rattle.kilim_replay_laws.proofs.shared.Nexts.{NextFits, Waits, next_fits}
 
@@ -329,6 +330,14 @@ module _ (set : Setting) (typing : Typing) (live : Wanted) (is : IsVerified set 
         let own : FramesFit p typing live of Nothing (top ∷ below) = subst (λ (x : Thread). FramesFit p typing live of Nothing (frames_of x)) e f in
         asked_there (moves p top below s.heap) (moves_fit p typing live of (facts_hold p is.keeps) is.verified top below s.heap (record { frames = own; heap = fits.heap }) (top_there (top ∷ below) own))
 
+    frames_call : (th : Thread) → FramesFit p typing live of Nothing (frames_of th) → (top : Activation) (below : List Activation) (done boxes : ℕ) → th ≡ Alive (top ∷ below) done boxes → AskedIsFine set s.heap (moves p top below s.heap)
+    frames_call th f top below done boxes e =
+        let own : FramesFit p typing live of Nothing (top ∷ below) = subst (λ (x : Thread). FramesFit p typing live of Nothing (frames_of x)) e f in
+        calls_fine set typing live of is main s.heap fits.heap top own.0 (top_there (top ∷ below) own) below
+
+    main_begins : (k : ℕ) → begun_on p (execute_of p set.main) k ≡ None → ⊥
+    main_begins k = task_begun p is.keeps is.form set.main main set.main k (and_parts (is_task p set.main) _ (and_parts (is_concrete (class_at p set.main)) _ main).1).0
+
     thread_serves : (t : ℕ) (th : Thread) → slice_get s.threads t ≡ Some th → Serves set (lone_of s t th)
     thread_serves t th at =
         let fine = thread_fine t th at in
@@ -336,24 +345,15 @@ module _ (set : Setting) (typing : Typing) (live : Wanted) (is : IsVerified set 
           fine = fine;
           heap = record { suits = suits p is.keeps of s.heap fits.heap known fine.shown; there = all_there s.heap (closed p is.keeps of s.heap fits.heap known) };
           asked = frames_asked th (fits.threads t th at);
+          calls = frames_call th (fits.threads t th at);
+          executes = main_begins;
         }
 
   -- ---- the beginning
 
   begins_some : (o : Option (List Activation)) → begun_on p (constructor_of p set.main) 0 ≡ o → (frames : List Activation) × (begun_on p (constructor_of p set.main) 0 ≡ Some frames)
   begins_some (Some frames) e = (frames, e)
-  begins_some None e =
-      let a = and_parts (is_concrete (class_at p set.main)) _ main in
-      let b = and_parts (is_task p set.main) _ a.1 in
-      absurd (by (constructor_of p set.main) b.1 e)
-    where
-      with_method : (id : MethodId) (o : Option Method) → is_own_constructor o ≡ true → begun_in p id 0 o ≡ None → ⊥
-      with_method id None own e = cc
-      with_method id (Some m) own e = cc
-
-      by : (o : Option MethodId) → is_own_constructor (o >>= method_at p) ≡ true → begun_on p o 0 ≡ None → ⊥
-      by None own e = cc
-      by (Some id) own e = with_method id (method_at p id) own e
+  begins_some None e = absurd (constructs p set.main 0 main e)
 
   zero_below : (q : ℕ) → q < 1 → q ≡ 0
   zero_below zero lt = refl

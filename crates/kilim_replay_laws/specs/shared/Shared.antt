@@ -4,14 +4,19 @@ use Rattle.std.specs.FinMap.{get}
 use Rattle.kilim_program.specs.Program.{Program}
 use Rattle.kilim_program.specs.BuiltIn.{class_type}
 use Rattle.kilim_program.specs.declared.names.BoxName.{BoxName}
+use Rattle.kilim_program.specs.declared.names.MethodId.{MethodId}
 use Rattle.kilim_program.specs.declared.ty.Ty.{Ty}
+use Rattle.kilim_program.specs.declared.value.Value.{Value}
+use Rattle.kilim_program.specs.declared.value.Value.TheVariants.{Ref}
+use Rattle.kilim_program.specs.Members.{execute_of}
 use Rattle.kilim_run_state.specs.declared.value.Object.{Object}
 use Rattle.kilim_run_state.specs.Machine.{Objects, Activation}
 use Rattle.kilim_run_machine.specs.Moves.{Move, moves}
 use Rattle.kilim_run_machine.specs.Moves as move
+use Rattle.kilim_run_machine.specs.Natives.{Start, native_of}
 use Rattle.kilim_type_sound.specs.Fits.{Classes, Typing, Wanted, Nothing, FramesFit, HeapFits, AreThere, is_of}
-use Rattle.kilim_run_model.specs.State.{Setting, Thread, Alive, State, is_fit, first_state}
-use Rattle.kilim_run_model.specs.Lone.{Lone}
+use Rattle.kilim_run_model.specs.State.{Setting, Thread, Alive, State, begun_on, execute_frames, is_fit, first_state}
+use Rattle.kilim_run_model.specs.Lone.{Lone, Stands, asks_next}
 use Rattle.kilim_run_model.specs.Turn.{lone_of, moved}
 use Rattle.kilim_isolation_laws.specs.typed_threads.fine.Typed.{IsVerified, frames_of}
 use Rattle.kilim_run_trees.specs.Shaping.{AllSuit}
@@ -66,14 +71,27 @@ abbrev pub AskedAreThere : Objects → Move → Type 0
 AskedAreThere h (move.Asks m args frames k) = AreThere h args
 AskedAreThere h m = Unit {0}
 
--- A thread that isn't stuck at its next instruction, on a heap whose trees can be shown.
+-- A call of a built-in method comes to something, whatever there is behind it: its arguments are those of its declared types, and a
+-- receiver isn't null. What is started has a method to begin with.
+pub record IsFineCall (set : Setting) (h : Objects) (m : MethodId) (args : List Value) : Type 0 where
+  pub never : (after : Lone) → asks_next set after args (native_of set.program m) ≡ Stands → ⊥
+  pub begins : (root : ℕ) → native_of set.program m ≡ Some Start → args ≡ Ref root ∷ [] → execute_frames set.program h root ≡ None → ⊥
+
+abbrev pub AskedIsFine : Setting → Objects → Move → Type 0
+AskedIsFine set h (move.Asks m args frames k) = IsFineCall set h m args
+AskedIsFine set h m = Unit {0}
+
+-- A thread that isn't stuck at its next instruction, nor at a built-in method, on a heap whose trees can be shown. The main class has a
+-- method `execute`.
 pub record Serves (set : Setting) (l : Lone) : Type 0 where
   pub fine : IsFineThread set l
   pub heap : HeapServes set.program l.heap
   pub asked : (top : Activation) (below : List Activation) (done boxes : ℕ) → l.thread ≡ Alive (top ∷ below) done boxes → AskedAreThere l.heap (moves set.program top below l.heap)
+  pub calls : (top : Activation) (below : List Activation) (done boxes : ℕ) → l.thread ≡ Alive (top ∷ below) done boxes → AskedIsFine set l.heap (moves set.program top below l.heap)
+  pub executes : (n : ℕ) → begun_on set.program (execute_of set.program set.main) n ≡ None → ⊥
 
 -- A verified program, whether the isolation rules accept it or not: it begins so, each move of each thread keeps it, and no thread is
--- stuck at its next instruction.
+-- stuck at its next instruction or a built-in method.
 pub record SharedStays (set : Setting) (typing : Typing) (live : Wanted) (is : IsVerified set typing live) : Type 0 where
   pub first : IsTypedState set typing live is (first_state set)
   pub moves : (s : State) (t : ℕ) → IsTypedState set typing live is s → IsTypedState set typing live is (moved set s t).state
