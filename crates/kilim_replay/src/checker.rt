@@ -47,6 +47,7 @@ fn count_acts(journal: &[Entry]) -> usize
 
 // The state in which a replay begins.
 fn begin(alloc: Global, program: &Program, main: ClassId) -> Result<Machine, NoMemory>
+    requires { is_fit_main program.now main ≡ true }
     ensures all { IfOk result (λ machine. AreRoomyTasks program.now machine.tasks.items) }
     ensures first { IfOk result (λ machine. BeginsAs program.now main machine) }
 {

@@ -5,7 +5,7 @@ ghost use Rattle.kilim_run_model.specs.State.{Setting, State, execute_frames};
 ghost use Rattle.kilim_run_model.specs.Lone.{Next, pushed_on};
 ghost use Rattle.kilim_run_model.specs.Turn.{moved_by};
 ghost use Rattle.kilim_run_state.specs.Words.{IsThere};
-ghost use Rattle.kilim_replay_thread.specs.Comes.{HasRoomFor};
+ghost use Rattle.kilim_replay_thread.specs.Comes.{CanBegin, HasRoomFor};
 ghost use Rattle.kilim_replay_thread.specs.Live.{HasFrames, RoomIn, RoomyIn, behind_in, calls_in};
 ghost use Rattle.kilim_replay.specs.Mailboxes.{mail_of};
 ghost use Rattle.kilim_replay.specs.Machine.{AreRoomyTasks, CanDo, HasBounded, HasEnded, HasFoundNone, HasPrinted, HasPut, HasStarted, HasTaken, IsDone, IsNextOf, StandsAt, Views};
@@ -202,7 +202,8 @@ fn end(task: u32, cause: EndCause, machine: &mut Machine) -> Act
 
 // A task that begins on an object.
 fn begun(alloc: Global, program: &Program, world: &World, root: u32) -> Result<Live, NoMemory>
-    requires { IsThere world.now.heap root }
+    requires there { IsThere world.now.heap root }
+    requires begins { CanBegin program.now world.now.heap root }
     ensures frames { IfOk result (λ live. execute_frames program.now world.now.heap root ≡ Some (calls_in live.frames)) }
     ensures none { IfOk result (λ live. (live.done ≡ 0) × (live.boxes ≡ 0)) }
     ensures roomy { IfOk result (λ live. RoomyIn program.now live.frames) }
@@ -230,6 +231,7 @@ fn start_one(
     requires task { task < length machine.old.tasks.items }
     requires frames { HasFrames live.frames }
     requires there { IsThere machine.old.world.heap root }
+    requires begins { CanBegin program.now machine.old.world.heap root }
     requires roomy { RoomyIn program.now live.frames }
     requires all { AreRoomyTasks program.now machine.old.tasks.items }
     requires counts { live.done + 1 < 2 ^ 64 }

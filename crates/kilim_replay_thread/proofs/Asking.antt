@@ -1,5 +1,5 @@
 -- What is asked of a built-in method, and where a new mailbox or a return ends the task.
-use Rattle.std.proofs.Common.{◌≡◌, ◌≤◌, ◌<◌, ◌+◌, ℕ, Bool, true, false, cond, eqb, List, [], ◌∷◌, Option, Some, None, Result, Ok, Err, refl, sym, ap, subst, ◌∙◌, arith}
+use Rattle.std.proofs.Common.{◌≡◌, ◌≤◌, ◌<◌, ◌+◌, ℕ, Bool, true, false, cond, eqb, length, List, [], ◌∷◌, Option, Some, None, Result, Ok, Err, refl, sym, ap, subst, ◌∙◌, arith}
 use Rattle.std.proofs.lemmas.Bool.Decides.{nat_tests}
 use Rattle.std.specs.Prelude.{nat_lt, IfOk}
 use Rattle.kilim_program.specs.Program.{Program}
@@ -15,11 +15,12 @@ use Rattle.kilim_run_machine.specs.Moves.{push_value}
 use Rattle.kilim_run_machine.specs.Natives as native
 use Rattle.kilim_type_sound.specs.Fits.{AreThere}
 use Rattle.kilim_run_model.specs.State.{Setting, begun_on}
-use Rattle.kilim_run_model.specs.Lone.{Lone, Next, Goes, Ends, went, over, ended, opens_next, native_next, asks_next, finish_next, begins_next}
+use Rattle.kilim_run_model.specs.Lone.{Lone, Next, Goes, Ends, Stands, went, over, ended, opens_next, native_next, asks_next, finish_next, begins_next}
 use Rattle.kilim_fiber_steps.specs.records.natives.Natives.{meaning}
 use Rattle.kilim_fiber_steps.specs.declared.records.natives.natives.Native.{Native}
+use Rattle.kilim_fiber_steps.specs.declared.records.natives.natives.Native.TheVariants as code
 use Rattle.kilim_replay_laws.specs.shared.Shared.{HeapServes}
-use Rattle.kilim_replay_thread.specs.Comes.{CanAsk, CanShow, Comes, IsOnOrEnd, IsPutWait, IsSame, IsShownValue, SuitsCall}
+use Rattle.kilim_replay_thread.specs.Comes.{CanAsk, CanShow, Comes, IsOnOrEnd, IsPutWait, IsSame, IsShownMessage, SuitsCall}
 use Rattle.kilim_replay_thread.specs.Live.{kept_for}
 use Rattle.kilim_replay_thread.specs.Operands.{AreCopies}
 use Rattle.kilim_replay_thread.specs.declared.operands.Operands.{Operands}
@@ -46,14 +47,49 @@ opens_new t l frames done boxes lt =
 pub can_show : (p : Program) (h : Objects) (n : ℕ) (rest : List Value) → HeapServes p h → AreThere h (Ref n ∷ rest) → CanShow p h n
 can_show p h n rest serves there = record { there = serves.there n there.0.0 there.0.1; suits = serves.suits }
 
-pub shown_value : (p : Program) (h : Objects) (v : Value) (rest : List Value) → HeapServes p h → AreThere h (v ∷ rest) → IsShownValue p h v
-shown_value p h (Int n) rest s there = tt
-shown_value p h (Long n) rest s there = tt
-shown_value p h Null rest s there = tt
-shown_value p h (Ref n) rest s there = can_show p h n rest s there
-shown_value p h (Text units) rest s there = tt
-shown_value p h (Box other) rest s there = tt
-shown_value p h Fiber rest s there = tt
+message_shown : (p : Program) (w : World) (l : Live) (box : BoxName) (v : Value) → CanAsk p (Some native.Put) (Box box ∷ v ∷ []) w l → IsShownMessage p w.heap v
+message_shown p w l box Null can = tt
+message_shown p w l box (Ref n) can = can_show p w.heap n [] can.heap can.there.1
+message_shown p w l box (Int n) can = absurd (can.made.never refl)
+message_shown p w l box (Long n) can = absurd (can.made.never refl)
+message_shown p w l box (Text units) can = absurd (can.made.never refl)
+message_shown p w l box (Box other) can = absurd (can.made.never refl)
+message_shown p w l box Fiber can = absurd (can.made.never refl)
+
+wait_shown : (p : Program) (w : World) (l : Live) (box : BoxName) (v : Value) → CanAsk p (Some native.PutWait) (Box box ∷ v ∷ []) w l → IsShownMessage p w.heap v
+wait_shown p w l box Null can = tt
+wait_shown p w l box (Ref n) can = can_show p w.heap n [] can.heap can.there.1
+wait_shown p w l box (Int n) can = absurd (can.made.never refl)
+wait_shown p w l box (Long n) can = absurd (can.made.never refl)
+wait_shown p w l box (Text units) can = absurd (can.made.never refl)
+wait_shown p w l box (Box other) can = absurd (can.made.never refl)
+wait_shown p w l box Fiber can = absurd (can.made.never refl)
+
+-- what is put, by operands that are known
+with_both : (p : Program) (w : World) (l : Live) (n m : Native) (box : BoxName) (first v : Value) → n ≡ m → first ≡ Box box → CanAsk p (Some (meaning n)) (first ∷ v ∷ []) w l → CanAsk p (Some (meaning m)) (Box box ∷ v ∷ []) w l
+with_both p w l n m box first v is is-box can = subst (λ (u : Value). CanAsk p (Some (meaning m)) (u ∷ v ∷ []) w l) is-box (subst (λ (k : Native). CanAsk p (Some (meaning k)) (first ∷ v ∷ []) w l) is can)
+
+pub put_shown : (p : Program) (w : World) (l : Live) (n : Native) (box : BoxName) (first v : Value) → n ≡ code.Put → first ≡ Box box → CanAsk p (Some (meaning n)) (first ∷ v ∷ []) w l → IsShownMessage p w.heap v
+put_shown p w l n box first v is is-box can = message_shown p w l box v (with_both p w l n code.Put box first v is is-box can)
+
+pub put_wait_shown : (p : Program) (w : World) (l : Live) (n : Native) (box : BoxName) (first v : Value) → n ≡ code.PutWait → first ≡ Box box → CanAsk p (Some (meaning n)) (first ∷ v ∷ []) w l → IsShownMessage p w.heap v
+put_wait_shown p w l n box first v is is-box can = wait_shown p w l box v (with_both p w l n code.PutWait box first v is is-box can)
+
+-- ---- a call that verified code makes has at most two arguments
+
+pub made_few : (set : Setting) (after : Lone) (n : Native) (args : List Value) → (native_next set after (meaning n) args ≡ Stands → ⊥) → length args ≤ 2
+made_few set after code.Execute (Ref n ∷ []) m = omega arith
+made_few set after code.Start (Ref n ∷ []) m = omega arith
+made_few set after code.Put (Box box ∷ v ∷ []) m = omega arith
+made_few set after code.PutWait (Box box ∷ v ∷ []) m = omega arith
+made_few set after code.Bound (Box box ∷ Int i ∷ []) m = omega arith
+made_few set after code.Get (Box box ∷ []) m = omega arith
+made_few set after code.Getnb (Box box ∷ []) m = omega arith
+made_few set after code.Print (v ∷ []) m = omega arith
+made_few set after code.Yield [] m = omega arith
+made_few set after code.ArgCount [] m = omega arith
+made_few set after code.Arg (Int i ∷ []) m = omega arith
+made_few set after _ _ m = absurd (m refl)
 
 -- ---- the same method, the same arguments
 
@@ -83,6 +119,9 @@ told_one args o v e c = subst (AreCopies args) e c
 
 pub told_two : (args : List Value) (o : Operands) (v w : Value) → o ≡ copied.Two v w → AreCopies args o → args ≡ v ∷ w ∷ []
 told_two args o v w e c = subst (AreCopies args) e c
+
+pub told_more : (args : List Value) (o : Operands) → o ≡ copied.More → AreCopies args o → 2 < length args
+told_more args o e c = subst (AreCopies args) e c
 
 -- ---- the last frame returns
 
@@ -115,9 +154,6 @@ none_kept t = by (eqb t 0)
 
 pub unchanged : (w : World) (l : Live) → IsSame w l w l
 unchanged w l = record { world = refl; live = refl }
-
-pub shown_second : (p : Program) (h : Objects) (first second : Value) (box : BoxName) → first ≡ Box box → HeapServes p h → AreThere h (first ∷ second ∷ []) → IsShownValue p h second
-shown_second p h first second box e serves there = shown_value p h second [] serves (subst (λ (v : Value). AreThere h (v ∷ second ∷ [])) e there).1
 
 -- ---- which call it is
 

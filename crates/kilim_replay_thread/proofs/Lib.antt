@@ -3,3 +3,4 @@ pub mod Asking
 pub mod Standing
 pub mod Reaching
 pub mod Arms
+pub mod Beginning

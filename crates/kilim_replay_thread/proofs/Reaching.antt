@@ -23,7 +23,7 @@ use Rattle.kilim_run_machine.specs.Raising.{index_at, raised_class, thrown}
 use Rattle.kilim_run_model.specs.Course.{Quiet, Stays, Moves}
 use Rattle.kilim_fiber_spec.specs.fiber_kin.Served.{HasRoom, ResultFits}
 use Rattle.kilim_fiber_spec.proofs.fiber_kin.Fine.{opens_fit}
-use Rattle.kilim_replay_laws.specs.shared.Shared.{AskedAreThere, Serves}
+use Rattle.kilim_replay_laws.specs.shared.Shared.{AskedAreThere, AskedIsFine, IsFineCall, Serves}
 use Rattle.kilim_replay_laws.specs.shared.Runs.{CanGo}
 use Rattle.kilim_replay_laws.specs.Waiting.{AsksToWait, IsWaitCall, waits_call}
 use Rattle.kilim_replay_laws.proofs.Waiting.{not_asked, waits_ask}
@@ -289,6 +289,8 @@ module _ (set : Setting) (t : ℕ) where
           let args : operands_in mid.frames ≡ operands_of ran.frames = ap operands_in ran.are in
           let own = native_of set.program id in
           let fits : ResultFits set (m w'.heap) = subst (ResultFits set) (move_is m e) (serves.fine.result at.top at.below mid.done mid.boxes alive_is few_done) in
+          let fine : AskedIsFine set w'.heap (m w'.heap) = subst (AskedIsFine set w'.heap) (move_is m e) (serves.calls at.top at.below mid.done mid.boxes alive_is) in
+          let call : IsFineCall set w'.heap id (operands_in mid.frames) = subst (λ (vs : List Value). IsFineCall set w'.heap id vs) (sym args) fine in
           let there : AskedAreThere w'.heap (m w'.heap) = subst (AskedAreThere w'.heap) (move_is m e) (serves.asked at.top at.below mid.done mid.boxes alive_is) in (
             record {
               quiet = to_mid;
@@ -299,6 +301,8 @@ module _ (set : Setting) (t : ℕ) where
               room = λ gives. subst (RoomIn set.program) (sym ran.are) (fits gives);
               there = subst (λ (vs : List Value). Rattle.kilim_type_sound.specs.Fits.AreThere w'.heap vs) (sym args) there;
               heap = serves.heap;
+              made = record { set = set; after = behind_at t w' mid; never = call.never (behind_at t w' mid) };
+              begins = call.begins;
             },
           )
 

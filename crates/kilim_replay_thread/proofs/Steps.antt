@@ -1,7 +1,7 @@
 -- Steps of one thread.
 use Rattle.std.proofs.Common.{◌≡◌, ℕ, suc, ◌+◌, ◌-◌, ◌<◌, ◌≤◌, Bool, true, false, cond, List, [], ◌∷◌, Option, Some, None, refl, sym, ap, subst, ◌∙◌, arith}
 use Rattle.std.specs.FinMap.{insert}
-use Rattle.std.proofs.lemmas.Bool.{lt-leb}
+use Rattle.std.proofs.lemmas.Bool.{false≢true, lt-leb}
 use Rattle.kilim_program.specs.Program.{Program}
 use Rattle.kilim_run_state.specs.declared.cause.EndCause.TheVariants as cause
 use Rattle.kilim_run_state.specs.declared.value.Object.{Object}
@@ -16,14 +16,14 @@ use Rattle.kilim_program.specs.declared.value.Value.{Value}
 use Rattle.kilim_run_machine.specs.Does.{does}
 use Rattle.kilim_run_machine.specs.Effect.{Effect}
 use Rattle.kilim_run_machine.specs.Effect as effect
-use Rattle.kilim_run_machine.specs.Moves.{Move, Runs, Makes, Enters, called, effect_of, entered, frame_limit, goes_on, move_by, moves, push_value, receiver_of, returned}
+use Rattle.kilim_run_machine.specs.Moves.{Move, Runs, Makes, Enters, called, effect_in, effect_of, entered, frame_limit, goes_on, move_by, moves, push_value, receiver_of, returned}
 use Rattle.kilim_run_machine.specs.Moves as move
 use Rattle.kilim_run_state.specs.declared.frames.frame.Frame.{Frame}
 use Rattle.kilim_run_state.specs.declared.frames.frames.Frames.{Frames}
 use Rattle.kilim_run_state.specs.frames.Calls.{activation, below_of, calls_of}
 use Rattle.kilim_run_rows.specs.declared.outcome.Moved.{Moved}
 use Rattle.kilim_run_rows.specs.declared.outcome.Moved.TheVariants as moved
-use Rattle.kilim_run_rows.specs.Outcome.{IsMade, Shows}
+use Rattle.kilim_run_rows.specs.Outcome.{IsMade, Shows, is_stuck}
 use Rattle.kilim_run_interp.specs.Step as step
 use Rattle.kilim_run_interp.specs.Step.{CanSettle, IsWent}
 use Rattle.kilim_run_interp.specs.Run.{IsFine}
@@ -182,6 +182,10 @@ never_asks p own behind m top below plain other shown id args gs y e = asks_not 
 went_named : (m : Move) (calls : List Activation) (h k : Objects) (next : ℕ) → ((o : Object) (gs : List Activation) (y : Objects) → m ≡ move.Makes o gs y → ⊥) → IsWent m calls h k → IsNamed m calls h k next next
 went_named m calls h k next none (step.RanOn change is) = RanOn change is refl
 went_named m calls h k next none (step.MadeOne object at before is pushed fresh added) = absurd (none object before h is)
+
+-- a frame that isn't stuck is of a method of the program
+pub no_method : (p : Program) (top : Activation) (below : List Activation) (h : Objects) → IsFine p top below h → method_at p top.method ≡ None → ⊥
+no_method p top below h fine none = false≢true (sym fine.fine ∙ ap (λ (o : Option Method). is_stuck (effect_in p top h o)) none)
 
 -- ---- one step more
 

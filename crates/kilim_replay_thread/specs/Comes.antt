@@ -11,7 +11,8 @@ use Rattle.kilim_run_state.specs.Machine.{Objects}
 use Rattle.kilim_run_state.specs.Words.{IsThere}
 use Rattle.kilim_run_machine.specs.Natives.{Native}
 use Rattle.kilim_run_machine.specs.Natives as native
-use Rattle.kilim_run_model.specs.Lone.{Next, Goes, Puts, PutWaits, Bounds, Gets, Probes, Starts, Prints, Ends}
+use Rattle.kilim_run_model.specs.State.{Setting, execute_frames}
+use Rattle.kilim_run_model.specs.Lone.{Lone, Next, Stands, asks_next, Goes, Puts, PutWaits, Bounds, Gets, Probes, Starts, Prints, Ends}
 use Rattle.kilim_run_trees.specs.Shaping.{AllSuit}
 use Rattle.kilim_run_trees.specs.Walk.{AllThere}
 use Rattle.kilim_type_sound.specs.Fits.{AreThere}
@@ -32,14 +33,15 @@ pub record CanShow (p : Program) (h : Objects) (root : ℕ) : Type 0 where
   pub there : AllThere h root
   pub suits : AllSuit p h
 
-abbrev pub IsShownValue : Program → Objects → Value → Type 0
-IsShownValue p h (Ref n) = CanShow p h n
-IsShownValue p h v = Unit {0}
+-- a value that is put: null, or a reference to an object whose tree can be shown
+abbrev pub IsShownMessage : Program → Objects → Value → Type 0
+IsShownMessage p h Null = Unit {0}
+IsShownMessage p h (Ref n) = CanShow p h n
+IsShownMessage p h v = ⊥
 
--- what is put where an object is, or null
-abbrev pub value_named : Option ℕ → Value
-value_named None = Null
-value_named (Some n) = Ref n
+-- a method begins on the object of that name
+abbrev pub CanBegin : Program → Objects → ℕ → Type 0
+CanBegin p h root = execute_frames p h root ≡ None → ⊥
 
 -- ---- what comes
 
@@ -97,7 +99,8 @@ SuitsCall o args (came.TooLarge box root) = (o ≡ Some native.PutWait) × (args
 SuitsCall o args (came.Ends why) = waits_call o args ≡ false
 SuitsCall o args c = Unit {0}
 
--- It stands at an instruction, and there is room for the result that it is to get. The task object is there.
+-- It stands at an instruction, and there is room for the result that it is to get. The task object is there, and has a
+-- method to begin with.
 abbrev pub HasRoomFor : Program → World → Live → Came → Type 0
 HasRoomFor p w l came.On = Unit {0}
 HasRoomFor p w l (came.Puts box root shape) = HasFrames l.frames
@@ -106,15 +109,23 @@ HasRoomFor p w l (came.TooLarge box root) = Unit {0}
 HasRoomFor p w l (came.Bounds box most) = HasFrames l.frames
 HasRoomFor p w l (came.Takes box) = RoomIn p l.frames
 HasRoomFor p w l (came.Probes box) = RoomIn p l.frames
-HasRoomFor p w l (came.Starts root shape) = HasFrames l.frames × IsThere w.heap root
+HasRoomFor p w l (came.Starts root shape) = HasFrames l.frames × IsThere w.heap root × CanBegin p w.heap root
 HasRoomFor p w l (came.Prints shape) = HasFrames l.frames
 HasRoomFor p w l (came.Ends why) = Unit {0}
+
+-- It is a call that verified code makes: in some setting, whatever stands behind it, it isn't where no such code comes.
+pub record IsMade (n : Option Native) (args : List Value) : Type 0 where
+  pub set : Setting
+  pub after : Lone
+  pub never : asks_next set after args n ≡ Stands → ⊥
 
 -- what is known where a built-in method is called
 pub record CanAsk (p : Program) (n : Option Native) (args : List Value) (w : World) (l : Live) : Type 0 where
   pub room : gives_value n ≡ true → RoomIn p l.frames
   pub there : AreThere w.heap args
   pub heap : HeapServes p w.heap
+  pub made : IsMade n args
+  pub begins : (root : ℕ) → n ≡ Some native.Start → args ≡ Ref root ∷ [] → CanBegin p w.heap root
 
 -- ---- many instructions
 

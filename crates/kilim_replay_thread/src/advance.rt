@@ -1,7 +1,8 @@
 //! A task runs up to its next action, which isn't done.
 
-ghost use Rattle.std.specs.Prelude.{◌≡◌, ◌<◌, ◌≤◌, ◌+◌, ◌-◌, ◌^◌, ◌==◌, false, IfOk, OnOk};
-ghost use Rattle.kilim_run_model.specs.State.{Setting};
+ghost use Rattle.std.specs.Prelude.{◌≡◌, ◌<◌, ◌≤◌, ◌+◌, ◌-◌, ◌^◌, ◌==◌, ℕ, false, None, IfOk, OnOk};
+ghost use Rattle.kilim_program.specs.Members.{execute_of};
+ghost use Rattle.kilim_run_model.specs.State.{Setting, begun_on};
 ghost use Rattle.kilim_run_model.specs.Lone.{opens_next, finish_next};
 ghost use Rattle.kilim_replay_laws.specs.shared.Runs.{CanGo};
 ghost use Rattle.kilim_replay_thread.specs.Comes.{Comes, HasRoomFor, HasRunOn, IsNear, IsOther};
@@ -103,6 +104,7 @@ fn leave(
 ) -> Result<Came, NoMemory>
     requires roomy { RoomyIn program.now live.old.frames }
     requires counts { live.old.done + 1 < 2 ^ 64 }
+    requires begins { (n : ℕ) → begun_on program.now (execute_of program.now main) n ≡ None → ⊥ }
     ensures comes { (set : Setting) → set.program ≡ program.now → set.main ≡ main → IfOk result (λ came. Comes task (finish_next set (lone_at task world.old live.old) live.old.done live.old.boxes (kept_for task world.old.kept)) world.old live.old world.new live.new came) }
     ensures other { IfOk result IsOther }
     ensures roomy { OnOk result (RoomyIn program.now live.new.frames) }

@@ -1,6 +1,6 @@
 //! A built-in method that is called.
 
-ghost use Rattle.std.specs.Prelude.{◌≡◌, ◌<◌, ◌≤◌, ◌+◌, ◌^◌, ◌∷◌, [], length, Some, IfOk, OnOk};
+ghost use Rattle.std.specs.Prelude.{◌≡◌, ◌<◌, ◌≤◌, ◌+◌, ◌^◌, ◌∷◌, [], length, Some, None, IfOk, OnOk};
 ghost use Rattle.kilim_program.specs.declared.value.Value.TheVariants as a_value;
 ghost use Rattle.kilim_run_machine.specs.Natives.{native_of};
 ghost use Rattle.kilim_run_state.specs.Shapes.{shape_of};
@@ -8,7 +8,7 @@ ghost use Rattle.kilim_run_model.specs.State.{Setting};
 ghost use Rattle.kilim_run_model.specs.Lone.{Goes, pushed, narrowed, arg_at, arg_next, printed, print_next, message_next, put_next, put_wait_next, wait_next, bound_next, start_next, native_next, asks_next};
 ghost use Rattle.kilim_fiber_steps.specs.records.natives.Natives.{meaning};
 ghost use Rattle.kilim_replay_laws.specs.shared.Shared.{HeapServes};
-ghost use Rattle.kilim_replay_thread.specs.Comes.{CanAsk, CanShow, Comes, HasRoomFor, IsNear, IsOnOrEnd, IsOther, IsPutWait, IsShownValue, SuitsCall, value_named};
+ghost use Rattle.kilim_replay_thread.specs.Comes.{CanAsk, CanBegin, CanShow, Comes, HasRoomFor, IsNear, IsOnOrEnd, IsOther, IsPutWait, IsShownMessage, SuitsCall};
 ghost use Rattle.kilim_replay_thread.specs.Live.{HasFrames, HasOperands, RoomIn, RoomyIn, behind_at, operands_in};
 ghost use Rattle.kilim_replay_thread.specs.Operands.{AreCopies};
 
@@ -89,18 +89,16 @@ fn arg(
 }
 
 // The token of a printed value; no verified code prints another one.
-fn printed(value: &Value) -> Result<Option<Token>, NoMemory>
-    ensures { IfOk result (λ token. token ≡ printed value.now) }
+fn printed(value: &Value) -> Result<Token, NoMemory>
+    requires { printed value.now ≡ None → ⊥ }
+    ensures { IfOk result (λ token. printed value.now ≡ Some token) }
 {
     match value {
-        Value::Int(n) => Ok(Some(Token::Int(*n))),
-        Value::Long(n) => Ok(Some(Token::Long(*n))),
-        Value::Null => Ok(Some(Token::Null)),
-        Value::Text(units) => match units.clone() {
-            Ok(copy) => Ok(Some(Token::Text(copy))),
-            Err(_) => Err(NoMemory),
-        },
-        Value::Ref(_) | Value::Box(_) | Value::Fiber => Ok(None),
+        Value::Int(n) => Ok(Token::Int(*n)),
+        Value::Long(n) => Ok(Token::Long(*n)),
+        Value::Null => Ok(Token::Null),
+        Value::Text(units) => Ok(Token::Text(units.clone()?)),
+        Value::Ref(_) | Value::Box(_) | Value::Fiber => unreachable!(),
     }
 }
 
@@ -124,6 +122,7 @@ fn print(
     live: &Live,
 ) -> Result<Came, NoMemory>
     requires frames { HasFrames live.now.frames }
+    requires made { printed value.now ≡ None → ⊥ }
     ensures comes { IfOk result (λ came. Comes task (print_next (behind_at task world.now live.now) (printed value.now)) world.now live.now world.now live.now came) }
     ensures other { IfOk result IsOther }
     ensures room { IfOk result (λ came. HasRoomFor program.now world.now live.now came) }
@@ -132,26 +131,12 @@ fn print(
     let _ = task;
     let _ = world;
     let _ = live;
-    match printed(value) {
-        Ok(Some(token)) => match one_token(alloc, token) {
-            Ok(shape) => Ok(Came::Prints(shape)),
-            Err(fault) => Err(fault),
-        },
-        // unmet: `print` is declared of ints, longs and strings alone
-        Ok(None) => Err(unmet()),
+    let Ok(token) = printed(value) else {
+        return Err(NoMemory);
+    };
+    match one_token(alloc, token) {
+        Ok(shape) => Ok(Came::Prints(shape)),
         Err(fault) => Err(fault),
-    }
-}
-
-// The object that is put; none where it is null.
-fn message_of(message: &Value) -> Result<Option<u32>, NoMemory>
-    ensures { IfOk result (λ root. message.now ≡ value_named root) }
-{
-    match message {
-        Value::Null => Ok(None),
-        Value::Ref(root) => Ok(Some(*root)),
-        // unmet: `put` and `putw` are declared of messages
-        _ => Err(unmet()),
     }
 }
 
@@ -193,7 +178,7 @@ fn put(
     requires frames { HasFrames live.old.frames }
     requires roomy { RoomyIn program.now live.old.frames }
     requires counts { live.old.done + 1 < 2 ^ 64 }
-    requires shown { IsShownValue program.now world.old.heap message.now }
+    requires shown { IsShownMessage program.now world.old.heap message.now }
     ensures comes { IfOk result (λ came. Comes task (message_next program.now (behind_at task world.old live.old) mailbox message.now) world.old live.old world.new live.new came) }
     ensures other { IfOk result IsOther }
     ensures roomy { OnOk result (RoomyIn program.now live.new.frames) }
@@ -201,10 +186,10 @@ fn put(
     ensures room { IfOk result (λ came. HasRoomFor program.now world.new live.new came) }
     ensures kept { OnOk result (world.new.kept ≡ world.old.kept) }
 {
-    match message_of(message) {
-        Ok(None) => raise_called(alloc, program, EndCause::Null, task, world, live),
-        Ok(Some(root)) => put_tree(alloc, program, mailbox, root, task, world, live),
-        Err(fault) => Err(fault),
+    match message {
+        Value::Null => raise_called(alloc, program, EndCause::Null, task, world, live),
+        Value::Ref(root) => put_tree(alloc, program, mailbox, *root, task, world, live),
+        _ => unreachable!(),
     }
 }
 
@@ -246,7 +231,7 @@ fn put_wait(
     requires frames { HasFrames live.old.frames }
     requires roomy { RoomyIn program.now live.old.frames }
     requires counts { live.old.done + 1 < 2 ^ 64 }
-    requires shown { IsShownValue program.now world.old.heap message.now }
+    requires shown { IsShownMessage program.now world.old.heap message.now }
     ensures comes { IfOk result (λ came. Comes task (wait_next program.now (behind_at task world.old live.old) mailbox message.now) world.old live.old world.new live.new came) }
     ensures waits { IfOk result (IsPutWait mailbox message.now) }
     ensures roomy { OnOk result (RoomyIn program.now live.new.frames) }
@@ -254,10 +239,10 @@ fn put_wait(
     ensures room { IfOk result (λ came. HasRoomFor program.now world.new live.new came) }
     ensures kept { OnOk result (world.new.kept ≡ world.old.kept) }
 {
-    match message_of(message) {
-        Ok(None) => raise_called(alloc, program, EndCause::Null, task, world, live),
-        Ok(Some(root)) => put_wait_tree(alloc, program, mailbox, root, task, world, live),
-        Err(fault) => Err(fault),
+    match message {
+        Value::Null => raise_called(alloc, program, EndCause::Null, task, world, live),
+        Value::Ref(root) => put_wait_tree(alloc, program, mailbox, *root, task, world, live),
+        _ => unreachable!(),
     }
 }
 
@@ -299,6 +284,7 @@ fn start(
 ) -> Result<Came, NoMemory>
     requires frames { HasFrames live.now.frames }
     requires shown { CanShow program.now world.now.heap root }
+    requires begins { CanBegin program.now world.now.heap root }
     ensures comes { IfOk result (λ came. Comes task (start_next (behind_at task world.now live.now) root (shape_of program.now world.now.heap root)) world.now live.now world.now live.now came) }
     ensures other { IfOk result IsOther }
     ensures room { IfOk result (λ came. HasRoomFor program.now world.now live.now came) }
@@ -337,8 +323,7 @@ fn ask_of_none(
             Ok(Came::On)
         }
         Native::ArgCount => Ok(count_args(program, limits, task, world, live)),
-        // unmet: the other built-in methods that are handed out have arguments
-        _ => Err(unmet()),
+        _ => unreachable!(),
     }
 }
 
@@ -364,20 +349,32 @@ fn ask_of_one(
     ensures room { IfOk result (λ came. HasRoomFor program.now world.new live.new came) }
     ensures kept { OnOk result (world.new.kept ≡ world.old.kept) }
 {
-    match (native, value) {
-        (Native::Execute, Value::Ref(_)) => {
-            go_on(program, live);
-            Ok(Came::On)
-        }
-        (Native::Start, Value::Ref(root)) => start(alloc, program, *root, task, world, live),
-        (Native::Get, Value::Box(mailbox)) => Ok(Came::Takes(*mailbox)),
-        (Native::Getnb, Value::Box(mailbox)) => Ok(Came::Probes(*mailbox)),
-        (Native::Print, value) => print(alloc, program, value, task, world, live),
-        (Native::Arg, Value::Int(index)) => {
-            arg(alloc, program, limits, index, task, world, live)
-        }
-        // unmet: verified code passes values of the declared types, and no null as the receiver
-        _ => Err(unmet()),
+    match native {
+        Native::Execute => match value {
+            Value::Ref(_) => {
+                go_on(program, live);
+                Ok(Came::On)
+            }
+            _ => unreachable!(),
+        },
+        Native::Start => match value {
+            Value::Ref(root) => start(alloc, program, *root, task, world, live),
+            _ => unreachable!(),
+        },
+        Native::Get => match value {
+            Value::Box(mailbox) => Ok(Came::Takes(*mailbox)),
+            _ => unreachable!(),
+        },
+        Native::Getnb => match value {
+            Value::Box(mailbox) => Ok(Came::Probes(*mailbox)),
+            _ => unreachable!(),
+        },
+        Native::Print => print(alloc, program, value, task, world, live),
+        Native::Arg => match value {
+            Value::Int(index) => arg(alloc, program, limits, index, task, world, live),
+            _ => unreachable!(),
+        },
+        _ => unreachable!(),
     }
 }
 
@@ -403,18 +400,22 @@ fn ask_of_two(
     ensures room { IfOk result (λ came. HasRoomFor program.now world.new live.new came) }
     ensures kept { OnOk result (world.new.kept ≡ world.old.kept) }
 {
-    match (native, first, second) {
-        (Native::Put, Value::Box(mailbox), message) => {
-            put(alloc, program, *mailbox, message, task, world, live)
-        }
-        (Native::PutWait, Value::Box(mailbox), message) => {
-            put_wait(alloc, program, *mailbox, message, task, world, live)
-        }
-        (Native::Bound, Value::Box(mailbox), Value::Int(most)) => {
-            bound(alloc, program, *mailbox, most, task, world, live)
-        }
-        // unmet: these alone have two arguments, of which the first is a mailbox that isn't null
-        _ => Err(unmet()),
+    match native {
+        Native::Put => match first {
+            Value::Box(mailbox) => put(alloc, program, *mailbox, second, task, world, live),
+            _ => unreachable!(),
+        },
+        Native::PutWait => match first {
+            Value::Box(mailbox) => put_wait(alloc, program, *mailbox, second, task, world, live),
+            _ => unreachable!(),
+        },
+        Native::Bound => match (first, second) {
+            (Value::Box(mailbox), Value::Int(most)) => {
+                bound(alloc, program, *mailbox, most, task, world, live)
+            }
+            _ => unreachable!(),
+        },
+        _ => unreachable!(),
     }
 }
 
@@ -449,8 +450,7 @@ fn ask_with(
         Operands::Two(first, second) => ask_of_two(
             alloc, program, native, first, second, task, world, live,
         ),
-        // unmet: no built-in method of a plain program has more than two arguments
-        Operands::More => Err(unmet()),
+        Operands::More => unreachable!(),
     }
 }
 

@@ -1,6 +1,7 @@
 //! The frames with which a task begins, and what all tasks share at first.
 
-ghost use Rattle.std.specs.Prelude.{◌≡◌, ◌∷◌, [], Some, IfOk};
+ghost use Rattle.std.specs.Prelude.{◌≡◌, ◌∷◌, [], true, Some, None, IfOk};
+ghost use Rattle.kilim_program.specs.Members.{is_fit_main};
 ghost use Rattle.kilim_program.specs.declared.value.Value.TheVariants.{Ref};
 ghost use Rattle.kilim_run_machine.specs.Moves.{entered};
 ghost use Rattle.kilim_run_state.specs.Words.{IsThere};
@@ -8,6 +9,7 @@ ghost use Rattle.kilim_run_state.specs.frames.Calls.{calls_of};
 ghost use Rattle.kilim_run_model.specs.State.{begun_on, execute_frames};
 ghost use Rattle.kilim_run_interp.specs.Step.{AreRoomy};
 ghost use Rattle.kilim_replay_thread.specs.Begins.{Boots};
+ghost use Rattle.kilim_replay_thread.specs.Comes.{CanBegin};
 ghost use Rattle.kilim_replay_thread.specs.Live.{calls_in, RoomyIn};
 
 use crate::task::{Live, World};
@@ -49,16 +51,13 @@ pub fn begun_on(
     id: Option<MethodId>,
     name: u32,
 ) -> Result<Option<Frames>, NoMemory>
+    requires { begun_on program.now id name ≡ None → ⊥ }
     ensures frames { IfOk result (λ frames. begun_on program.now id name ≡ Some (calls_in frames)) }
     ensures roomy { IfOk result (λ frames. RoomyIn program.now frames) }
 {
-    let Some(id) = id else {
-        // unmet: a fit main class has a constructor, and a task class an `execute`
-        return Err(unmet());
-    };
+    let Some(id) = id else { unreachable!() };
     let Some(method) = method_at(program, id) else {
-        // unmet: members of a program name methods of it
-        return Err(unmet());
+        unreachable!()
     };
     if method.built_in {
         return Ok(None);
@@ -76,14 +75,14 @@ pub fn task_frames(
     heap: &Heap,
     name: u32,
 ) -> Result<Option<Frames>, NoMemory>
-    requires { IsThere heap.now name }
+    requires there { IsThere heap.now name }
+    requires begins { CanBegin program.now heap.now name }
     ensures frames { IfOk result (λ frames. execute_frames program.now heap.now name ≡ Some (calls_in frames)) }
     ensures roomy { IfOk result (λ frames. RoomyIn program.now frames) }
 {
     let object = heap.object(name);
     let Base::Class(class) = object.class.base else {
-        // unmet: what is started is a task object, and no array
-        return Err(unmet());
+        unreachable!()
     };
     begun_on(alloc, program, execute_of(program, class), name)
 }
@@ -94,6 +93,7 @@ pub fn first_world(
     program: &Program,
     main: ClassId,
 ) -> Result<(World, Live), NoMemory>
+    requires { is_fit_main program.now main ≡ true }
     ensures { IfOk result (λ first. Boots program.now main first.0 first.1) }
 {
     let Ok(object) = new_object(alloc, program, main) else {

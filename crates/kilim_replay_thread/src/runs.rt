@@ -176,8 +176,7 @@ pub fn run_thread(
     let mut left = limit;
     'steps: while left > 0 {
         let Some(own) = method_at(program, frames.top.method) else {
-            // unmet: frames are of methods of the program
-            return Err(unmet());
+            unreachable!()
         };
         match do_one(alloc, program, own, frames, heap, next) {
             One::Goes => {

@@ -7,7 +7,7 @@ use Rattle.kilim_replay_thread.specs.Raises.{raised_at, thrown_at}
 use Rattle.kilim_replay_thread.specs.Reach.{Reaches, setting_of}
 use Rattle.kilim_replay_thread.specs.declared.runs.Halted.{Halted}
 use Rattle.kilim_replay_thread.proofs.Arms.{asked_arm, ended_arm, opened_arm, raised_arm, returned_arm, spent_arm, thrown_arm}
-use Rattle.kilim_replay_thread.proofs.Reaching.{both_ok, came_by, done_now, led_by, none_there, safe_on, spent_now, suits_call, suits_other}
+use Rattle.kilim_replay_thread.proofs.Reaching.{both_ok, came_by, done_now, led_by, none_there, safe_on, serves_here, spent_now, suits_call, suits_other}
 use Rattle.kilim_replay_thread.proofs.advance.advance.Goals as goal
 
 pub returns-then-live-limits-clause-reaches : goal.returns-then-live-limits-clause-reaches
@@ -67,6 +67,10 @@ returns-in-Asks-clause-reaches c =
     (λ came comes suits near.
     came_by set c.args.task (lone_at c.args.task c.args.world.now c.args.live.now) c.args.live.now.done w' mid (omega (arith, c.in-Ok.ensures.run.counted)) next c.ask.new.world c.ask.new.live came at.stood
     (suits_call set c.args.task w' mid native args came suits at.other at.puts) near comes)
+
+pub leave-requires-clause-begins : goal.leave-requires-clause-begins
+leave-requires-clause-begins c =
+    (serves_here (setting_of c.args.program.now c.args.main c.args.limits.now) c.args.task (lone_at c.args.task c.args.world.now c.args.live.now) c.requires.can).executes
 
 pub returns-in-Returned-clause-reaches : goal.returns-in-Returned-clause-reaches
 returns-in-Returned-clause-reaches c =

@@ -9,8 +9,11 @@ use Rattle.kilim_replay_thread.proofs.asks.ask_of_one.Goals as goal
 
 pub start-requires-clause-shown : goal.start-requires-clause-shown
 start-requires-clause-shown c =
-    can_show c.args.program.now c.args.world.now.heap c.in-Start-Ref.root [] c.requires.can.heap
-    (subst (λ (v : Value). AreThere c.args.world.now.heap (v ∷ [])) c.in-Start-Ref.is-1 c.requires.can.there)
+    can_show c.args.program.now c.args.world.now.heap c.in-Ref-value.root [] c.requires.can.heap
+    (subst (λ (v : Value). AreThere c.args.world.now.heap (v ∷ [])) c.in-Ref-value.is c.requires.can.there)
+
+pub start-requires-clause-begins : goal.start-requires-clause-begins
+start-requires-clause-begins c = c.requires.can.begins c.in-Ref-value.root (ap (λ (n : Native). Some (meaning n)) c.in-Start.is) (ap (λ (v : Value). v ∷ []) c.in-Ref-value.is)
 
 pub arg-requires-clause-room : goal.arg-requires-clause-room
-arg-requires-clause-room c = c.requires.can.room (ap (λ (n : Native). gives_value (Some (meaning n))) c.in-Arg-Int.is-0)
+arg-requires-clause-room c = c.requires.can.room (ap (λ (n : Native). gives_value (Some (meaning n))) c.in-Arg.is)

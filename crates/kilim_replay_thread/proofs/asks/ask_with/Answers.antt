@@ -1,7 +1,7 @@
-use Rattle.std.proofs.Common.{[], ◌∷◌, Some, refl}
+use Rattle.std.proofs.Common.{[], ◌∷◌, Some, arith, refl}
 use Rattle.kilim_fiber_steps.specs.records.natives.Natives.{meaning}
 use Rattle.kilim_replay_thread.specs.Live.{behind_at, operands_in}
-use Rattle.kilim_replay_thread.proofs.Asking.{args_same, come_by, suits_as, told_none, told_one, told_two, with_args}
+use Rattle.kilim_replay_thread.proofs.Asking.{args_same, come_by, made_few, suits_as, told_more, told_none, told_one, told_two, with_args}
 use Rattle.kilim_replay_thread.proofs.asks.ask_with.Goals as goal
 
 pub ask_of_none-requires-clause-can : goal.ask_of_none-requires-clause-can
@@ -45,3 +45,11 @@ returns-in-One-clause-suits c =
 pub returns-in-Two-clause-suits : goal.returns-in-Two-clause-suits
 returns-in-Two-clause-suits c =
     suits_as c.ask_of_two.result (Some (meaning c.args.native)) (Some (meaning c.args.native)) (operands_in c.args.live.now.frames) (c.in-Two.first ∷ c.in-Two.second ∷ []) refl (told_two (operands_in c.args.live.now.frames) c.args.operands.now c.in-Two.first c.in-Two.second c.in-Two.is c.requires.operands) c.ask_of_two.ensures.suits
+
+pub unreachable-requires : goal.unreachable-requires
+unreachable-requires c =
+    let args = operands_in c.args.live.now.frames in
+    let made = c.requires.can.made in
+    let few = made_few made.set made.after c.args.native args made.never in
+    let many = told_more args c.args.operands.now c.in-More.is c.requires.operands in
+    omega (arith, few, many)

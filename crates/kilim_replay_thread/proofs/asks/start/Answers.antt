@@ -17,4 +17,4 @@ returns-in-Ok-None-clause-comes c = (
 )
 
 pub returns-in-Ok-Some-clause-room : goal.returns-in-Ok-Some-clause-room
-returns-in-Ok-Some-clause-room c = (c.requires.frames, c.requires.shown.there [] c.args.root [] refl tt)
+returns-in-Ok-Some-clause-room c = (c.requires.frames, c.requires.shown.there [] c.args.root [] refl tt, c.requires.begins)

@@ -1,12 +1,20 @@
-use Rattle.std.proofs.Common.{◌≡◌, ◌<◌, refl, arith}
+use Rattle.std.proofs.Common.{◌≡◌, ◌<◌, ◌∙◌, ap, sym, refl, arith}
+use Rattle.std.specs.Prelude.{option_copied}
 use Rattle.kilim_run_machine.specs.Moves.{effect_of}
-use Rattle.kilim_run_state.specs.frames.Calls.{activation, calls_of}
+use Rattle.kilim_run_state.specs.frames.Calls.{activation, below_of, calls_of}
 use Rattle.kilim_replay_thread.specs.Thread.{AtFirst}
-use Rattle.kilim_replay_thread.proofs.Steps.{further, goes_further, halts}
+use Rattle.kilim_replay_thread.proofs.Steps.{fine_here, further, goes_further, halts, no_method}
 use Rattle.kilim_replay_thread.proofs.runs.run_thread.Goals as goal
 
 pub steps-init : goal.steps-init
 steps-init c = record { runs = AtFirst (omega arith) refl refl refl; roomy = c.requires.roomy; few = omega arith }
+
+pub unreachable-requires : goal.unreachable-requires
+unreachable-requires c =
+    let some : 0 < c.steps.left = omega (arith, c.steps-test.true) in
+    no_method c.args.program.now (activation c.steps.frames.top) (below_of c.steps.frames) c.steps.heap
+    (fine_here c.args.program.now c.args.limit c.steps.left (calls_of c.args.frames.now) c.args.heap.now c.args.next.now c.steps.frames c.steps.heap c.steps.next c.steps.invariant.runs c.steps.invariant.few some c.requires.safe)
+    (sym c.method_at.ensures ∙ ap option_copied c.in_default.is)
 
 pub steps-preserved-in-Goes : goal.steps-preserved-in-Goes
 steps-preserved-in-Goes c =
