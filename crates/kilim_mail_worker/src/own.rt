@@ -1,6 +1,6 @@
 //! What a worker has of its own.
 
-ghost use Rattle.std.specs.Prelude.{◌≡◌, [], ◌∷◌, ◌++◌};
+ghost use Rattle.std.specs.Prelude.{◌≡◌, false, [], ◌∷◌, ◌++◌};
 ghost use Rattle.kilim_mail_notes.specs.Histories.{trace_of};
 ghost use Rattle.kilim_mail_worker.specs.Own.{buried, graves_of};
 
@@ -25,6 +25,8 @@ pub struct Own {
     pub log: Vec<Stamped>,
     /// The tasks.
     pub graves: Snapshot<Graves>,
+    /// Whether memory was wanting while it had a task in hand. Nothing is known of the others then.
+    pub failed: bool,
 }
 
 // No task.
@@ -40,16 +42,18 @@ impl Own {
     pub fn new(alloc: Global) -> Own
         ensures log { result.log.items ≡ [] }
         ensures graves { buried result ≡ [] }
+        ensures failed { result.failed ≡ false }
     {
         Own {
             log: Vec::new(alloc),
             graves: no_graves(),
+            failed: false,
         }
     }
 
     /// A task has ended.
     pub fn bury(&mut self, history: &History)
-        ensures log { self.new.log ≡ self.old.log }
+        ensures log { self.new.log.items ≡ self.old.log.items }
         ensures graves { buried self.new ≡ buried self.old ++ trace_of history.now ∷ [] }
     {
         let before = std::mem::replace(&mut self.graves, no_graves());

@@ -1,0 +1,4 @@
+pub mod Handing
+pub mod Noted
+pub mod Bodies
+pub mod Closing
