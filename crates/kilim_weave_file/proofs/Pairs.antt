@@ -9,7 +9,6 @@ use Rattle.kilim_class_pool.specs.declared.entry.Entry.{Entry}
 use Rattle.kilim_class_making.specs.declared.pool_needs.need.Need.{Need}
 use Rattle.kilim_class_making.specs.pool_needs.Adding.{with_needs}
 use Rattle.kilim_class_file.specs.declared.class_file.MemberInfo.{MemberInfo}
-use Rattle.kilim_weave_file.specs.Parts.{member_by}
 use Rattle.kilim_weave_file_spec.specs.WovenFile.{MethodPair, member_needs, pairs_of, woven_file, woven_member, woven_pool}
 
 abbrev one : MemberInfo → Method → Method → List Bool → List MethodPair
@@ -35,24 +34,15 @@ map_append : {A B : Type 0} (f : A → B) (xs ys : List A) → map f (xs ++ ys) 
 map_append f [] ys = refl
 map_append f (x ∷ xs) ys = ap (λ zs. f x ∷ zs) (map_append f xs ys)
 
-member_there : (w : Program) (file : ClassFile) (pool : List Entry) (is : List MemberInfo) (i : MemberInfo) (ps ms : List Method) (cs : List (List Bool)) (all : List MemberInfo) (next : MemberInfo) (op om : Option Method) (oc : Option (List Bool)) →
-    slice_get ps (length is) ≡ op → slice_get ms (length is) ≡ om → slice_get cs (length is) ≡ oc → member_by w file pool i op om oc ≡ Some next → all ≡ map (woven_member w file pool) (pairs_of is ps ms cs) →
+pub members_more : (w : Program) (file : ClassFile) (pool : List Entry) (is : List MemberInfo) (i : MemberInfo) (ps ms : List Method) (cs : List (List Bool)) (all : List MemberInfo) (next : MemberInfo) (at : ℕ) (p m : Method) (c : List Bool) →
+    at ≡ length is → slice_get ps at ≡ Some p → slice_get ms at ≡ Some m → slice_get cs at ≡ Some c → next ≡ woven_member w file pool (record { info = i; plain = p; method = m; counted = c }) → all ≡ map (woven_member w file pool) (pairs_of is ps ms cs) →
     all ++ next ∷ [] ≡ map (woven_member w file pool) (pairs_of (is ++ i ∷ []) ps ms cs)
-member_there w file pool is i ps ms cs all next (Some p) (Some m) (Some c) hp hm hc h so_far =
+members_more w file pool is i ps ms cs all next at p m c here hp hm hc made so_far =
     let f = woven_member w file pool in
-    ap (λ (x : MemberInfo). all ++ x ∷ []) (sym (same_Some (f (record { info = i; plain = p; method = m; counted = c })) next h))
+    ap (λ (x : MemberInfo). all ++ x ∷ []) made
     ∙ (ap (λ (xs : List MemberInfo). xs ++ f (record { info = i; plain = p; method = m; counted = c }) ∷ []) so_far
-    ∙ (sym (map_append f (pairs_of is ps ms cs) (one i p m c)) ∙ ap (λ (xs : List MethodPair). map f xs) (sym (pairs_more is i ps ms cs p m c hp hm hc))))
-member_there w file pool is i ps ms cs all next None om oc hp hm hc h so_far = absurd (none-some next h)
-member_there w file pool is i ps ms cs all next (Some p) None oc hp hm hc h so_far = absurd (none-some next h)
-member_there w file pool is i ps ms cs all next (Some p) (Some m) None hp hm hc h so_far = absurd (none-some next h)
-
-pub members_more : (w : Program) (file : ClassFile) (pool : List Entry) (is : List MemberInfo) (i : MemberInfo) (ps ms : List Method) (cs : List (List Bool)) (all : List MemberInfo) (next : MemberInfo) (at : ℕ) (op om : Option Method) (oc : Option (List Bool)) →
-    at ≡ length is → op ≡ slice_get ps at → om ≡ slice_get ms at → oc ≡ slice_get cs at → member_by w file pool i op om oc ≡ Some next → all ≡ map (woven_member w file pool) (pairs_of is ps ms cs) →
-    all ++ next ∷ [] ≡ map (woven_member w file pool) (pairs_of (is ++ i ∷ []) ps ms cs)
-members_more w file pool is i ps ms cs all next at op om oc here hp hm hc h so_far =
-    member_there w file pool is i ps ms cs all next op om oc
-    (sym (hp ∙ ap (λ n. slice_get ps n) here)) (sym (hm ∙ ap (λ n. slice_get ms n) here)) (sym (hc ∙ ap (λ n. slice_get cs n) here)) h so_far
+    ∙ (sym (map_append f (pairs_of is ps ms cs) (one i p m c))
+    ∙ ap (λ (xs : List MethodPair). map f xs) (sym (pairs_more is i ps ms cs p m c (sym (ap (λ n. slice_get ps n) here) ∙ hp) (sym (ap (λ n. slice_get ms n) here) ∙ hm) (sym (ap (λ n. slice_get cs n) here) ∙ hc)))))
 
 last_length : (is : List MemberInfo) (i : MemberInfo) → length (is ++ i ∷ []) ≡ length is + 1
 last_length [] i = omega arith

@@ -30,7 +30,7 @@ fn class_entry(alloc: Global, program: &Program, pool: &Pool, ty: Ty) -> Result<
 }
 
 // A place is below 65,536; another would be answered as want of memory.
-fn near_place(place: u32) -> Result<u16, NoMemory>
+fn near_place(place: u64) -> Result<u16, NoMemory>
     ensures { IfOk result (λ n. n ≡ place) }
 {
     if place > 65_535 {
@@ -54,7 +54,7 @@ fn slot_type(
         VType::Long => Ok(VerificationType::Long),
         VType::Null => Ok(VerificationType::Null),
         VType::UninitThis => Ok(VerificationType::UninitializedThis),
-        VType::Uninit(place) => match near_place(*place) {
+        VType::Uninit(place) => match near_place(u64::from(*place)) {
             Ok(near) => Ok(VerificationType::Uninitialized(near)),
             Err(fault) => Err(fault),
         },
@@ -128,10 +128,10 @@ fn entries(alloc: Global, locals: &[VType]) -> Result<Vec<VType>, NoMemory>
 }
 
 // The distance from the place behind the frame before.
-fn delta_from(next: u32, at: u32) -> Result<u16, NoMemory>
+fn delta_from(next: u64, at: u32) -> Result<u16, NoMemory>
     ensures { IfOk result (λ delta. delta ≡ at - next) }
 {
-    near_place(at.saturating_sub(next))
+    near_place(u64::from(at).saturating_sub(next))
 }
 
 fn full_frame(
@@ -161,9 +161,9 @@ fn push_frame(
     into: &mut Seq<Entered>,
     program: &Program,
     pool: &Pool,
-    next: u32,
+    next: u64,
     entry: &(u32, Frame),
-) -> Result<u32, NoMemory>
+) -> Result<u64, NoMemory>
     ensures { IfOk result (λ behind. (behind ≡ suc entry.now.0) × (into.new ≡ into.old ++ full_frame program.now pool.now (entry.now.0 - next) entry.now.1 ∷ [])) }
 {
     let Ok(delta) = delta_from(next, entry.0) else {
@@ -175,7 +175,7 @@ fn push_frame(
     let Ok(()) = into.push(frame) else {
         return Err(NoMemory);
     };
-    near_next(entry.0)
+    Ok(place_behind(entry.0))
 }
 
 /// The frames of a table, in their order.
@@ -200,12 +200,8 @@ pub fn full_frames(
 }
 
 // The place behind.
-fn near_next(place: u32) -> Result<u32, NoMemory>
-    ensures { IfOk result (λ n. n ≡ suc place) }
+fn place_behind(place: u32) -> u64
+    ensures { result ≡ suc place }
 {
-    if place > 65_535 {
-        // unmet: woven code is shorter than 65,536 bytes
-        return Err(unmet());
-    }
-    Ok(place + 1)
+    u64::from(place) + 1
 }

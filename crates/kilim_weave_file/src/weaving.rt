@@ -1,6 +1,6 @@
 //! The woven class file.
 
-ghost use Rattle.std.specs.Prelude.{◌≡◌, ◌++◌, ◌∷◌, length, map, slice_get, option_copied, Some, IfOk, OnOk};
+ghost use Rattle.std.specs.Prelude.{◌≡◌, ◌<◌, ◌++◌, ◌∷◌, length, map, slice_get, Some, IfOk, OnOk};
 ghost use Rattle.std.specs.List.{flat_map};
 ghost use Rattle.kilim_class_attributes.specs.declared.attribute.Attribute.{Attribute};
 ghost use Rattle.kilim_link_spec.specs.World.{member_descriptor};
@@ -10,7 +10,6 @@ ghost use Rattle.kilim_weave_file_spec.specs.Texts.{woven_descriptor};
 ghost use Rattle.kilim_class_file.specs.Text.{ClassFits, class_text};
 ghost use Rattle.kilim_weave_file_spec.specs.Sizes.{longest_text};
 ghost use Rattle.kilim_weave_file_spec.specs.WovenFile.{info_needs, member_needs, pairs_of, woven_file, woven_member};
-ghost use Rattle.kilim_weave_file.specs.Parts.{member_by};
 ghost use Rattle.kilim_weave_file.specs.Applied.{Applied, SizesFit};
 
 use crate::fault::ApplyFault;
@@ -147,48 +146,18 @@ fn woven_member(
     }
 }
 
-// The method of a number, with those of the programs. None of a file is without them; it would be answered as want of memory.
-fn member_at(
-    alloc: Global,
-    program: &Program,
-    file: &ClassFile,
-    pool: &Pool,
-    info: MemberInfo,
-    plain: Option<&Method>,
-    method: Option<&Method>,
-    counted: Option<&Seq<bool>>,
-) -> Result<MemberInfo, NoMemory>
-    ensures { IfOk result (λ i. member_by program.now file.now pool.now info (option_copied plain.entry) (option_copied method.entry) (option_copied counted.entry) ≡ Some i) }
+fn method_get(methods: &[Method], at: usize) -> &Method
+    requires { at < length methods.now }
+    ensures { slice_get methods.now at ≡ Some result.now }
 {
-    match (plain, method, counted) {
-        (Some(plain), Some(method), Some(marks)) => woven_member(
-            alloc,
-            program,
-            file,
-            pool,
-            info,
-            plain,
-            method,
-            marks.as_slice(),
-        ),
-        _ => {
-            drop(info);
-            // unmet: the lists of methods are as long as each other
-            Err(unmet())
-        }
-    }
+    &methods[at]
 }
 
-fn method_get(methods: &[Method], at: usize) -> Option<&Method>
-    ensures { option_copied result ≡ slice_get methods.now at }
+fn marks_get(counted: &[Seq<bool>], at: usize) -> &Seq<bool>
+    requires { at < length counted.now }
+    ensures { slice_get counted.now at ≡ Some result.now }
 {
-    methods.get(at)
-}
-
-fn marks_get(counted: &[Seq<bool>], at: usize) -> Option<&Seq<bool>>
-    ensures { option_copied result ≡ slice_get counted.now at }
-{
-    counted.get(at)
+    &counted[at]
 }
 
 fn woven_members(
@@ -212,7 +181,16 @@ fn woven_members(
         let plain = method_get(plains, at);
         let method = method_get(wovens, at);
         let marks = marks_get(counted, at);
-        let Ok(member) = member_at(alloc, program, file, pool, info, plain, method, marks) else {
+        let Ok(member) = woven_member(
+            alloc,
+            program,
+            file,
+            pool,
+            info,
+            plain,
+            method,
+            marks.as_slice(),
+        ) else {
             return Err(NoMemory);
         };
         let Ok(()) = all.push(member) else {
