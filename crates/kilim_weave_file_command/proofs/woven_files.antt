@@ -6,3 +6,4 @@ pub mod Names
 pub mod Never
 pub mod Paths
 pub mod Below
+pub mod Enough

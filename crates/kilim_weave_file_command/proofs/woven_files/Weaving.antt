@@ -117,7 +117,3 @@ module _ (p w : Program) (file : ClassFile) (n : ℕ) (ps qs ms ns : List Method
 
   pub report_of : (name : List ℕ) (r : Result ClassFile Refusal) → IfReport r (IsRefusedFor p file name qs) → IfReport r (IsRefusedFor p file name ps)
   report_of name r said = told r (λ text x. record { fault = x.fault; is_fault = sym own_fault ∙ x.is_fault; is_text = x.is_text }) said
-
-pub many_of : {A : Type 0} (file : ClassFile) (n : ℕ) (xs : List A) → n ≡ length file.methods → n ≤ length xs → (r : Result ClassFile Refusal) → IfOk r (λ f. length file.methods ≤ length xs)
-many_of file n xs is le (Err e) = tt
-many_of file n xs is le (Ok f) = omega (arith, le, is)

@@ -59,6 +59,9 @@ woven_length w (f ∷ files) ps ms cs = ap suc (woven_length w files (drop (leng
 pub few_woven : (w : Program) (files made xs : List ClassFile) (ps ms : List Method) (cs : List (List Bool)) → xs ≡ made → made ≡ woven_by w files ps ms cs → length files ≤ 1000 → length xs ≤ 1000
 few_woven w files made xs ps ms cs same is few = subst (λ (n : ℕ). n ≤ 1000) (sym (ap length (same ∙ is) ∙ woven_length w files ps ms cs)) few
 
+pub few_classes : (w : Program) (files made xs : List ClassFile) (ps ms : List Method) (cs : List (List Bool)) (classes : List Class) → xs ≡ made → made ≡ woven_by w files ps ms cs → length files ≤ length classes → length xs ≤ length classes
+few_classes w files made xs ps ms cs classes same is few = subst (λ (n : ℕ). n ≤ length classes) (sym (ap length (same ∙ is) ∙ woven_length w files ps ms cs)) few
+
 -- ---- what class files link to
 
 links_as_ok : (files : List ClassFile) (p : Program) → IsLinkOf files Woven (Ok p) → LinksBack files p

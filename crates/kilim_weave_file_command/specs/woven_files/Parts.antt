@@ -1,5 +1,5 @@
 -- How the parts of the stage hand on what they answer. No clause of `woven_files` cites what stands here.
-use Rattle.std.specs.Prelude.{◌≡◌, ℕ, List, [], map, Some, None}
+use Rattle.std.specs.Prelude.{◌≡◌, ◌≤◌, ◌+◌, ℕ, List, [], ◌∷◌, length, map, Some, None}
 use Rattle.kilim_program.specs.declared.class.Form.TheVariants as form
 use Rattle.kilim_program.specs.declared.class.Method.{Method}
 use Rattle.kilim_program.specs.Program.{Program}
@@ -36,3 +36,15 @@ pub record AreWovenFrom (p : Program) (w : Woven) (files : List ClassFile) (outp
   pub fit : first_size_fault p files ≡ None
   pub are_outputs : AreOutputs p p.classes (woven_of p w files) outputs
   pub links : IsWovenProgramOf (map (λ (o : WovenFile). o.bytes) outputs) w.program
+
+-- how many methods class files have
+abbrev pub methods_in : List ClassFile → ℕ
+methods_in [] = 0
+methods_in (file ∷ files) = length file.methods + methods_in files
+
+-- There is a class for each class file; and for each of their methods one of the program, one of the woven program, and its marks.
+pub record HasEach (p : Program) (w : Woven) (files : List ClassFile) : Type 0 where
+  pub classes : length files ≤ length p.classes
+  pub methods : methods_in files ≤ length p.methods
+  pub woven : methods_in files ≤ length w.program.methods
+  pub marks : methods_in files ≤ length w.counted

@@ -1,12 +1,12 @@
 //! The class files of a program are woven, one after the other.
 
-ghost use Rattle.std.specs.Prelude.{◌≡◌, ◌≤◌, length, take, drop, [], None, true, IfOk, OnOk};
+ghost use Rattle.std.specs.Prelude.{◌≡◌, ◌≤◌, length, take, drop, [], None, IfOk, OnOk};
 ghost use Rattle.std.specs.List.{AllByRecursion};
 ghost use Rattle.kilim_class_file.specs.Text.{ClassFits};
 ghost use Rattle.kilim_stages.specs.Parts.{IfReport};
 ghost use Rattle.kilim_weave_file_spec.specs.Sizes.{longest_text};
 ghost use Rattle.kilim_weave_file_spec.specs.WovenFile.{pairs_of, woven_file};
-ghost use Rattle.kilim_weave_file_command.specs.woven_files.Parts.{IsRefusedFor, IsSizeReportIn};
+ghost use Rattle.kilim_weave_file_command.specs.woven_files.Parts.{HasEach, IsRefusedFor, IsSizeReportIn};
 ghost use Rattle.kilim_weave_file_command.specs.woven_files.Sizes.{first_size_fault, size_fault};
 ghost use Rattle.kilim_weave_file_command.specs.woven_files.WovenFiles.{woven_of};
 
@@ -50,15 +50,6 @@ fn woven_one(
     }
 }
 
-// Whether so many are there.
-fn are_there(count: usize, plains: &[Method], wovens: &[Method], counted: &[Seq<bool>]) -> bool
-    ensures plain { result ≡ true → count ≤ length plains.now }
-    ensures woven { result ≡ true → count ≤ length wovens.now }
-    ensures counted { result ≡ true → count ≤ length counted.now }
-{
-    count <= plains.len() && count <= wovens.len() && count <= counted.len()
-}
-
 fn front<T>(all: &[T], count: usize) -> &[T]
     requires { count ≤ length all.now }
     ensures { result.now ≡ take count all.now }
@@ -73,8 +64,7 @@ fn behind<T>(all: &[T], count: usize) -> &[T]
     &all[count..]
 }
 
-// One class file, with its class and the methods that are left. Where one of them were missing, which none is, want of memory
-// would be answered.
+// One class file, with its class and the methods that are left.
 fn woven_next(
     alloc: Global,
     file: &ClassFile,
@@ -88,19 +78,15 @@ fn woven_next(
 ) -> Result<ClassFile, Refusal>
     requires fits { ClassFits file.now }
     requires longest { longest ≡ longest_text program.now }
+    requires plain { length file.now.methods ≤ length plains.now }
+    requires woven { length file.now.methods ≤ length wovens.now }
+    requires counted { length file.now.methods ≤ length counted.now }
     ensures made { IfOk result (λ made. made ≡ woven_file woven.now file.now (pairs_of file.now.methods plains.now wovens.now counted.now)) }
     ensures fits { IfOk result ClassFits }
     ensures none { IfOk result (λ made. size_fault program.now file.now plains.now ≡ None) }
-    ensures plain { IfOk result (λ made. length file.now.methods ≤ length plains.now) }
-    ensures woven { IfOk result (λ made. length file.now.methods ≤ length wovens.now) }
-    ensures counted { IfOk result (λ made. length file.now.methods ≤ length counted.now) }
     ensures report { IfReport result (IsRefusedFor program.now file.now class.now.name plains.now) }
 {
     let count = file.methods.len();
-    if !are_there(count, plains, wovens, counted) {
-        // unmet: files that link have as many methods as their program
-        return Err(Refusal::NoMemory);
-    }
     let own_plains = front(plains, count);
     let own_wovens = front(wovens, count);
     let own_counted = front(counted, count);
@@ -128,6 +114,7 @@ fn push_applied(
 ) -> Result<(), Refusal>
     requires none { into.old ≡ [] }
     requires fit { AllByRecursion ClassFits files.now }
+    requires each { HasEach program.now woven.now files.now }
     requires longest { longest ≡ longest_text program.now }
     ensures made { OnOk result (into.new ≡ woven_of program.now woven.now files.now) }
     ensures fit { OnOk result (AllByRecursion ClassFits into.new) }
@@ -139,10 +126,7 @@ fn push_applied(
     let mut cs = woven.counted.as_slice();
     for at in 0..files.len() {
         let file = file_at(files, at);
-        let Some(class) = class_at(program, at) else {
-            // unmet: files that link have as many classes as their program
-            return Err(Refusal::NoMemory);
-        };
+        let class = class_at(program, at);
         let next = woven_next(
             alloc,
             file,
@@ -169,8 +153,7 @@ fn push_applied(
     Ok(())
 }
 
-/// The woven class files, or the report of the first that may get too large. Where a class were missing, which none is, want of
-/// memory would be answered.
+/// The woven class files, or the report of the first that may get too large.
 pub fn applied(
     alloc: Global,
     files: &[ClassFile],
@@ -178,6 +161,7 @@ pub fn applied(
     woven: &Woven,
 ) -> Result<Seq<ClassFile>, Refusal>
     requires fit { AllByRecursion ClassFits files.now }
+    requires each { HasEach program.now woven.now files.now }
     ensures made { IfOk result (λ made. made ≡ woven_of program.now woven.now files.now) }
     ensures fit { IfOk result (λ made. AllByRecursion ClassFits made) }
     ensures none { IfOk result (λ made. first_size_fault program.now files.now ≡ None) }

@@ -5,7 +5,7 @@ ghost use Rattle.std.specs.List.{AllByRecursion, count_by};
 ghost use Rattle.kilim_program.specs.Names.{method_at};
 ghost use Rattle.kilim_class_file.specs.Text.{ClassFits};
 ghost use Rattle.kilim_stages.specs.Parts.{IfReport};
-ghost use Rattle.kilim_weave_file_command.specs.woven_files.Parts.{AreWovenFrom, IsSizeReportIn};
+ghost use Rattle.kilim_weave_file_command.specs.woven_files.Parts.{AreWovenFrom, HasEach, IsSizeReportIn};
 ghost use Rattle.kilim_weave_file_command.specs.woven_files.WovenFiles.{AreOutputs, IsOutput, IsWovenProgramOf, can_pause, pausables_of};
 
 use crate::woven_files::applied::applied;
@@ -70,22 +70,20 @@ fn output_of(
     })
 }
 
-// A woven file for each class file. Where a class were missing, which none is, want of memory would be answered.
+// A woven file for each class file.
 fn outputs_of(
     alloc: Global,
     files: &[ClassFile],
     program: &Program,
 ) -> Result<Vec<WovenFile>, NoMemory>
-    requires { AllByRecursion ClassFits files.now }
+    requires fit { AllByRecursion ClassFits files.now }
+    requires classes { length files.now ≤ length program.now.classes }
     ensures { IfOk result (λ outputs. AreOutputs program.now program.now.classes files.now outputs.items) }
 {
     let mut outputs = Seq::new(alloc);
     for at in 0..files.len() {
         let file = file_at(files, at);
-        let Some(class) = class_at(program, at) else {
-            // unmet: files that link have as many classes as their program
-            return Err(unmet());
-        };
+        let class = class_at(program, at);
         let Ok(output) = output_of(alloc, program, class, file) else {
             return Err(NoMemory);
         };
@@ -105,6 +103,7 @@ fn linked_outputs(
 ) -> Result<Vec<WovenFile>, NoMemory>
     requires few { length files.now ≤ 1000 }
     requires fit { AllByRecursion ClassFits files.now }
+    requires classes { length files.now ≤ length program.now.classes }
     ensures outputs { IfOk result (λ outputs. AreOutputs program.now program.now.classes files.now outputs.items) }
     ensures links { IfOk result (λ outputs. IsWovenProgramOf (map (λ (o : WovenFile). o.bytes) outputs.items) woven.now) }
 {
@@ -125,6 +124,7 @@ pub fn woven_classes(
 ) -> Result<Vec<WovenFile>, Refusal>
     requires few { length files.now ≤ 1000 }
     requires fit { AllByRecursion ClassFits files.now }
+    requires each { HasEach program.now woven.now files.now }
     ensures woven { IfOk result (λ outputs. AreWovenFrom program.now woven.now files.now outputs.items) }
     ensures report { IfReport result (IsSizeReportIn program.now files.now) }
 {

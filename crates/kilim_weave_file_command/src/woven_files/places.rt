@@ -1,17 +1,18 @@
 //! Class files and classes by their places.
 
-ghost use Rattle.std.specs.Prelude.{◌≡◌, ◌<◌, Some, length, option_copied, slice_get};
+ghost use Rattle.std.specs.Prelude.{◌≡◌, ◌<◌, Some, length, slice_get};
 ghost use Rattle.std.specs.List.{AllByRecursion};
 ghost use Rattle.kilim_class_file.specs.Text.{ClassFits};
 
 use kilim_class_file::ClassFile;
 use kilim_program::{Class, Program};
 
-/// The class at a place, none past the end.
-pub fn class_at(program: &Program, at: usize) -> Option<&Class>
-    ensures { option_copied result ≡ slice_get program.now.classes at }
+/// The class at a place.
+pub fn class_at(program: &Program, at: usize) -> &Class
+    requires { at < length program.now.classes }
+    ensures { slice_get program.now.classes at ≡ Some result.now }
 {
-    program.classes.as_slice().get(at)
+    program.classes.get(at)
 }
 
 fn item_at(files: &[ClassFile], at: usize) -> &ClassFile

@@ -15,6 +15,7 @@ ghost use Rattle.kilim_weave_file_command.specs.woven_files.WovenFiles.{AreWoven
 use crate::woven_files::made::WovenFile;
 use crate::woven_files::outputs::woven_classes;
 use kilim_class_file::{ClassFile, class_file_is_spelled};
+use kilim_link_spec::linked_in_parts;
 use kilim_program::Program;
 use kilim_stages::Refusal;
 use kilim_stages::woven_stage::woven_program;
@@ -62,6 +63,8 @@ fn files_of(
     ensures woven { IfOk result (λ outputs. AreWovenFiles files.now outputs.items) }
     ensures report { IfReport result (IsSizeReport files.now) }
 {
+    class_file_is_spelled();
+    linked_in_parts();
     match class_files(alloc, files) {
         Ok(classes) => woven_classes(alloc, classes.as_slice(), program, woven),
         Err(_) => Err(Refusal::NoMemory),

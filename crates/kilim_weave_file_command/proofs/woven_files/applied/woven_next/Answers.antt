@@ -1,4 +1,4 @@
-use Rattle.kilim_weave_file_command.proofs.woven_files.Weaving.{made_of, many_of, none_of, report_of}
+use Rattle.kilim_weave_file_command.proofs.woven_files.Weaving.{made_of, none_of, report_of}
 use Rattle.kilim_weave_file_command.proofs.woven_files.applied.woven_next.Goals as goal
 
 pub returns-clause-made : goal.returns-clause-made
@@ -15,12 +15,3 @@ pub returns-clause-report : goal.returns-clause-report
 returns-clause-report c =
     report_of c.args.program.now c.args.woven.now c.args.file.now c.len-count.result c.args.plains.now c.front-own_plains.result.now c.args.wovens.now c.front-own_wovens.result.now c.args.counted.now c.front-own_counted.result.now c.len-count.ensures
     c.front-own_plains.ensures c.args.class.now.name c.woven_one.result c.woven_one.ensures.report
-
-pub returns-clause-plain : goal.returns-clause-plain
-returns-clause-plain c = many_of c.args.file.now c.len-count.result c.args.plains.now c.len-count.ensures (c.are_there.ensures.plain c.if-not-are_there.false) c.woven_one.result
-
-pub returns-clause-woven : goal.returns-clause-woven
-returns-clause-woven c = many_of c.args.file.now c.len-count.result c.args.wovens.now c.len-count.ensures (c.are_there.ensures.woven c.if-not-are_there.false) c.woven_one.result
-
-pub returns-clause-counted : goal.returns-clause-counted
-returns-clause-counted c = many_of c.args.file.now c.len-count.result c.args.counted.now c.len-count.ensures (c.are_there.ensures.counted c.if-not-are_there.false) c.woven_one.result
