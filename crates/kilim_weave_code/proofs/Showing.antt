@@ -59,6 +59,11 @@ saved_padded live k (suc n) (t ∷ ts) le =
     let r = saved_padded live (suc k) n ts (omega arith) in
     ap (λ (rest : List (ℕ × VType)). if live k && not (is_top t) then (k, t) ∷ rest else rest) r
 
+padded_long : (n : ℕ) (ts : List VType) → length (padded n ts) ≡ n
+padded_long zero ts = refl
+padded_long (suc n) [] = ap suc (padded_long n [])
+padded_long (suc n) (t ∷ ts) = ap suc (padded_long n ts)
+
 pub one_saved : (live : ℕ → Bool) (k : ℕ) (t : VType) (ts : List VType) (b : Bool) (done : List (ℕ × VType)) → (live k && not (is_top t)) ≡ b
     → (done ++ (if b then (k, t) ∷ [] else [])) ++ saved_from live (suc k) ts ≡ done ++ saved_from live k (t ∷ ts)
 one_saved live k t ts true done is = append_assoc done ((k, t) ∷ []) (saved_from live (suc k) ts) ∙ ap (λ (c : Bool). done ++ (if c then (k, t) ∷ saved_from live (suc k) ts else saved_from live (suc k) ts)) (sym is)
@@ -128,9 +133,9 @@ is_place [] i e h = absurd (cc)
 is_place (d ∷ code) zero e h = let same : d ≡ e = cc in let t : (d.0 == e.0) ≡ true = eq-eqb d.0 e.0 (ap (λ (x : ℕ × Instr). x.0) same) in rw t refl
 is_place (d ∷ code) (suc i) e h = or_right (d.0 == e.0) (is_code_place code e.0) (is_place code i e h)
 
-pub shown : (law : ListedFramesShow) (x : Plan) (p : Program) (m : Method) (frames : List Frame) (i : ℕ) (frame : Frame) (e : ℕ × Instr) → x.typing ≡ typing_of p m → Rising m.code → Listed p m frames → slice_get frames i ≡ Some frame → slice_get m.code i ≡ Some e → Shown x e.0 frame
+pub shown : (law : ListedFramesShow) (x : Plan) (p : Program) (m : Method) (frames : List Frame) (i : ℕ) (frame : Frame) (e : ℕ × Instr) → x.typing ≡ typing_of p m → x.method.max_locals ≡ m.max_locals → Rising m.code → Listed p m frames → slice_get frames i ≡ Some frame → slice_get m.code i ≡ Some e → Shown x e.0 frame
 unfolding typing_of
-shown law x p m frames i frame e typing rising whole there is =
+shown law x p m frames i frame e typing most rising whole there is =
     let a = map_at m (frames_of p m) i frame (ap (λ (fs : List Frame). slice_get fs i) (sym whole.are) ∙ there) in
     let f = a.0 in
     let at : x.typing e.0 ≡ f = ap (λ (t : ℕ → Types). t e.0) typing ∙ frame_here m.code (frames_of p m) i e f rising is a.1 in
@@ -143,6 +148,7 @@ shown law x p m frames i frame e typing rising whole there is =
       locals = λ slot. shows.locals slot ∙ ap (λ (t : Types). peek t.locals slot) (sym types);
       saved = λ live. saved_padded live 0 m.max_locals (typing_of p m e.0).locals l.0 ∙ ap (λ (t : Types). saved_from live 0 t.locals) (sym types);
       stack = shows.stack ∙ ap (λ (t : Types). t.stack) (sym types);
+      few = let long = padded_long m.max_locals (typing_of p m e.0).locals in omega (arith, long, most);
     } in
     subst (λ (fr : Frame). Shown x e.0 fr) (sym is_f) s
 

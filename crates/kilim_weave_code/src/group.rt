@@ -1,6 +1,6 @@
 //! The group of a pausable call. All is put before the items behind it.
 
-ghost use Rattle.std.specs.Prelude.{◌≡◌, ◌∷◌, ◌++◌, ◌&&◌, [], Some, true, not, drop, reverse, if◌then◌else◌, IfOk, OnOk};
+ghost use Rattle.std.specs.Prelude.{◌≡◌, ◌<◌, ◌^◌, ◌∷◌, ◌++◌, ◌&&◌, [], Some, true, not, drop, reverse, if◌then◌else◌, IfOk, OnOk};
 ghost use Rattle.kilim_type_spec.specs.Step.{is_top};
 ghost use Rattle.kilim_type_flow.specs.Table.{live_in};
 ghost use Rattle.kilim_weave_spec.specs.Woven as form;
@@ -32,14 +32,18 @@ fn is_top(ty: VType) -> bool
     }
 }
 
-fn local_of(at: usize) -> Result<u16, NoMemory>
-    ensures { IfOk result (λ slot. slot ≡ at) }
+// A law, and no work: a method has at most 65,535 locals.
+fn locals_fit(method: &Method)
+    ensures { method.now.max_locals < 2 ^ 16 }
 {
-    match u16::try_from(at) {
-        Ok(slot) => Ok(slot),
-        // unmet: a method that isn't too long has at most 65,535 locals
-        Err(_) => Err(unmet()),
-    }
+    let _most = method.max_locals;
+}
+
+fn local_of(at: usize) -> u16
+    requires { at < 2 ^ 16 }
+    ensures { result ≡ at }
+{
+    at as u16
 }
 
 // One more local, where it is live at a place.
@@ -71,12 +75,11 @@ pub fn saved(
     requires { Shown (meant plan.now) place frame.now }
     ensures { IfOk result (λ v. v.items ≡ form.saved (meant plan.now) place next) }
 {
+    locals_fit(plan.method);
     let locals = frame.locals.as_slice();
     let mut saved = Vec::new(alloc);
     for at in 0..locals.len() {
-        let Ok(slot) = local_of(at) else {
-            return Err(NoMemory);
-        };
+        let slot = local_of(at);
         let ty = type_at(locals, at);
         let Ok(()) = push_saved(plan, next, slot, ty, &mut saved) else {
             return Err(NoMemory);

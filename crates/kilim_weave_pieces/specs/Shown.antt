@@ -1,5 +1,5 @@
 -- A listed frame shows the types at a place of a plan.
-use Rattle.std.specs.Prelude.{◌≡◌, ℕ, zero, suc, Bool, true, false, List, Option, None, Some, is_some, slice_get, reverse}
+use Rattle.std.specs.Prelude.{◌≡◌, ◌≤◌, ℕ, zero, suc, Bool, true, false, List, Option, None, Some, is_some, length, slice_get, reverse}
 use Rattle.kilim_program.specs.declared.instr.Instr.{Instr}
 use Rattle.kilim_program.specs.declared.verified.Frame.{Frame}
 use Rattle.kilim_program.specs.Program.{Program}
@@ -10,6 +10,7 @@ pub record Shown (x : Plan) (place : ℕ) (frame : Frame) : Type 0 where
   pub locals : (slot : ℕ) → peek frame.locals slot ≡ peek (x.typing place).locals slot
   pub saved : (live : ℕ → Bool) → saved_from live 0 frame.locals ≡ saved_from live 0 (x.typing place).locals
   pub stack : reverse frame.stack ≡ (x.typing place).stack
+  pub few : length frame.locals ≤ x.method.max_locals
 
 -- whether an instruction stands at the first place or behind a pausable call, by its number
 abbrev pub calls_one : Program → Option (ℕ × Instr) → Bool
