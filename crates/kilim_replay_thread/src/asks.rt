@@ -20,7 +20,7 @@ use kilim_fiber_steps::records::natives::{Native, native_of};
 use kilim_program::{BoxName, MethodId, Program, Value};
 use kilim_run_state::{EndCause, Limits, Shape, Token};
 use kilim_run_trees::shape_at;
-use kilim_units::{NoMemory, Seq, unmet};
+use kilim_units::{NoMemory, Seq};
 use std::alloc::Global;
 
 // The low 32 bits as a signed number.
@@ -477,8 +477,7 @@ pub fn ask(
     ensures kept { OnOk result (world.new.kept ≡ world.old.kept) }
 {
     let Some(native) = native_of(program, method) else {
-        // unmet: such a method is one of those that are handed out
-        return Err(unmet());
+        unreachable!()
     };
     let Some(frames) = &live.frames else {
         unreachable!()

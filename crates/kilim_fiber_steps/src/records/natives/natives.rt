@@ -1,6 +1,6 @@
 //! The built-in methods that are handed out in woven form, by their names.
 
-ghost use Rattle.std.specs.Prelude.{◌≡◌, codes, Some, IfSome};
+ghost use Rattle.std.specs.Prelude.{◌≡◌, codes, Some, None, IfSome, IfNone};
 ghost use Rattle.kilim_program.specs.Lengths.{is_reference};
 ghost use Rattle.kilim_run_machine.specs.Natives as a_native;
 ghost use Rattle.kilim_run_machine.specs.Natives.{is_built_in_constructor, is_handed_out_of, is_of, is_of_message, takes_object, natives, native_named, native_of};
@@ -46,7 +46,8 @@ pub enum Native {
 }
 
 fn of_task(name: &Units) -> Option<Native>
-    ensures { IfSome result (λ n. native_named natives (codes "kilim/Task") name.now ≡ Some (meaning n)) }
+    ensures some { IfSome result (λ n. native_named natives (codes "kilim/Task") name.now ≡ Some (meaning n)) }
+    ensures none { IfNone result (native_named natives (codes "kilim/Task") name.now ≡ None) }
 {
     if name.is_text(b"start") {
         return Some(Native::Start);
@@ -58,7 +59,8 @@ fn of_task(name: &Units) -> Option<Native>
 }
 
 fn of_mailbox(name: &Units) -> Option<Native>
-    ensures { IfSome result (λ n. native_named natives (codes "kilim/Mailbox") name.now ≡ Some (meaning n)) }
+    ensures some { IfSome result (λ n. native_named natives (codes "kilim/Mailbox") name.now ≡ Some (meaning n)) }
+    ensures none { IfNone result (native_named natives (codes "kilim/Mailbox") name.now ≡ None) }
 {
     if name.is_text(b"put") {
         return Some(Native::Put);
@@ -79,7 +81,8 @@ fn of_mailbox(name: &Units) -> Option<Native>
 }
 
 fn of_sys(name: &Units) -> Option<Native>
-    ensures { IfSome result (λ n. native_named natives (codes "kilim/Sys") name.now ≡ Some (meaning n)) }
+    ensures some { IfSome result (λ n. native_named natives (codes "kilim/Sys") name.now ≡ Some (meaning n)) }
+    ensures none { IfNone result (native_named natives (codes "kilim/Sys") name.now ≡ None) }
 {
     if name.is_text(b"print") {
         return Some(Native::Print);
@@ -96,21 +99,9 @@ fn of_sys(name: &Units) -> Option<Native>
     None
 }
 
-// A member that saves or restores a value.
-fn of_values(name: &Units) -> Option<Member>
-    ensures { IfSome result (λ m. native_named natives (codes "kilim/Fiber") name.now ≡ Some (a_native.OfFiber (member_meant m))) }
-{
-    if name.is_text(b"saveI") || name.is_text(b"saveJ") || name.is_text(b"saveA") {
-        return Some(Member::Save);
-    }
-    if name.is_text(b"restI") || name.is_text(b"restJ") || name.is_text(b"restA") {
-        return Some(Member::Restore);
-    }
-    None
-}
-
 fn of_fiber(name: &Units) -> Option<Member>
-    ensures { IfSome result (λ m. native_named natives (codes "kilim/Fiber") name.now ≡ Some (a_native.OfFiber (member_meant m))) }
+    ensures some { IfSome result (λ m. native_named natives (codes "kilim/Fiber") name.now ≡ Some (a_native.OfFiber (member_meant m))) }
+    ensures none { IfNone result (native_named natives (codes "kilim/Fiber") name.now ≡ None) }
 {
     if name.is_text(b"pc") {
         return Some(Member::Pc);
@@ -121,17 +112,24 @@ fn of_fiber(name: &Units) -> Option<Member>
     if name.is_text(b"up") {
         return Some(Member::Up);
     }
+    if name.is_text(b"saveI") || name.is_text(b"saveJ") || name.is_text(b"saveA") {
+        return Some(Member::Save);
+    }
     if name.is_text(b"place") {
         return Some(Member::Place);
+    }
+    if name.is_text(b"restI") || name.is_text(b"restJ") || name.is_text(b"restA") {
+        return Some(Member::Restore);
     }
     if name.is_text(b"receiver") {
         return Some(Member::Receiver);
     }
-    of_values(name)
+    None
 }
 
 fn fiber_member(name: &Units) -> Option<Native>
-    ensures { IfSome result (λ n. native_named natives (codes "kilim/Fiber") name.now ≡ Some (meaning n)) }
+    ensures some { IfSome result (λ n. native_named natives (codes "kilim/Fiber") name.now ≡ Some (meaning n)) }
+    ensures none { IfNone result (native_named natives (codes "kilim/Fiber") name.now ≡ None) }
 {
     match of_fiber(name) {
         Some(member) => Some(Native::OfFiber(member)),
@@ -140,7 +138,8 @@ fn fiber_member(name: &Units) -> Option<Native>
 }
 
 fn named(class: &Units, name: &Units) -> Option<Native>
-    ensures { IfSome result (λ n. native_named natives class.now name.now ≡ Some (meaning n)) }
+    ensures some { IfSome result (λ n. native_named natives class.now name.now ≡ Some (meaning n)) }
+    ensures none { IfNone result (native_named natives class.now name.now ≡ None) }
 {
     if class.is_text(b"kilim/Fiber") {
         return fiber_member(name);
@@ -202,7 +201,8 @@ fn is_handed_out(class: &Units, method: &Method) -> bool
 
 /// Which built-in method it is, where it is one that is handed out.
 pub fn native_of(program: &Program, id: MethodId) -> Option<Native>
-    ensures { IfSome result (λ n. native_of program.now id ≡ Some (meaning n)) }
+    ensures some { IfSome result (λ n. native_of program.now id ≡ Some (meaning n)) }
+    ensures none { IfNone result (native_of program.now id ≡ None) }
 {
     let Some(method) = method_at(program, id) else {
         return None;

@@ -9,6 +9,6 @@ loop-at-preserved c =
     record {
       tell =
           subst (AreNatives c.args.program.now) (sym e)
-          (native_told c.args.program.now c.loop-at.table.items c.native_of-native.result c.in-Ok.number (let long = c.loop-at.invariant.long in let same = c.in-Ok.ensures in cc) c.loop-at.invariant.tell c.native_of-native.ensures);
+          (native_told c.args.program.now c.loop-at.table.items c.native_of-native.result c.in-Ok.number (let long = c.loop-at.invariant.long in let same = c.in-Ok.ensures in cc) c.loop-at.invariant.tell c.native_of-native.ensures.some);
       long = one_longer c.loop-at.table.items c.push.new.self.items c.native_of-native.result c.loop-at.at e c.loop-at.invariant.long;
     }
