@@ -3,3 +3,4 @@ pub mod None
 pub mod Both
 pub mod Plain
 pub mod Parts
+pub mod Apart

@@ -61,7 +61,7 @@ typing_reported names files cs r are said = reported r (λ text line. typing_rep
 
 -- ---- a typed program
 
-accepted_one : (files : List (List ℕ)) (t : TypedProgram) (i : IsolatedProgram) → IsTypedOf files t.program → t ≡ typed_of t.program → IsIsolated t i → IsAcceptedOf files i.typed.program
+pub accepted_one : (files : List (List ℕ)) (t : TypedProgram) (i : IsolatedProgram) → IsTypedOf files t.program → t ≡ typed_of t.program → IsIsolated t i → IsAcceptedOf files i.typed.program
 accepted_one files t i of is isolated =
     subst (λ (u : TypedProgram). IsAcceptedOf files u.program) (sym isolated.is)
     (record { of_files = of.of_files; accepts = record { typed = of.typed; isolated = subst (λ (u : TypedProgram). IsAccepted u) is isolated.accepted } })

@@ -1,9 +1,14 @@
 //! Laws, and no work.
 
 ghost use Rattle.kilim_stages.specs.Laws.{NeverBoth, NeverTypedAndReported, OneProgramOf};
+ghost use Rattle.kilim_stages.specs.Runs.{AcceptedRunsApart};
 
 use kilim_class_file::class_file_is_spelled;
+use kilim_isolation_laws::accepted_runs::begins::mains_begin;
+use kilim_isolation_laws::accepted_runs::plain::linked_is_plain;
+use kilim_isolation_laws::kept::accepted_is_kept;
 use kilim_link_spec::one_program;
+use kilim_run_model::one_heap::{none_shares, one_heap_is_many, plays_replay};
 
 /// A law, and no work: the same bytes link to no two programs.
 #[tactic(auto, using(crate::proofs::Both::same_program))]
@@ -30,4 +35,16 @@ pub fn never_typed_and_reported()
 {
     class_file_is_spelled();
     one_program();
+}
+
+/// A law, and no work: the threads of an accepted program never reach one object, in no interleaving, and its journals are those of one heap.
+pub fn accepted_runs_apart()
+    ensures { AcceptedRunsApart }
+{
+    linked_is_plain();
+    mains_begin();
+    accepted_is_kept();
+    none_shares();
+    plays_replay();
+    one_heap_is_many();
 }

@@ -10,6 +10,6 @@ mod stages;
 pub mod woven_stage;
 
 pub use counts::coded_methods;
-pub use laws::{never_both, never_typed_and_reported, one_program_of};
+pub use laws::{accepted_runs_apart, never_both, never_typed_and_reported, one_program_of};
 pub use refusal::Refusal;
 pub use stages::{accepted, typed_program};

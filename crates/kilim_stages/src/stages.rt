@@ -3,14 +3,17 @@
 ghost use Rattle.std.specs.Prelude.{◌≡◌, ◌≤◌, length, map, IfOk};
 ghost use Rattle.std.specs.List.{AllByRecursion};
 ghost use Rattle.std.specs.String.{string_bytes};
+ghost use Rattle.kilim_program.specs.Keeps.{Keeps};
 ghost use Rattle.kilim_class_file.specs.Text.{ClassFits};
 ghost use Rattle.kilim_reports.specs.LinkLines.{link_line};
 ghost use Rattle.kilim_reports.specs.RuleLines.{fault_lines, type_line};
 ghost use Rattle.kilim_stages.specs.Accepted.{IsAcceptedOf, IsTypedOf, typed_of};
 ghost use Rattle.kilim_stages.specs.Parts.{Refused, IfReport, IsIsolated, IsLinkLine, IsTypeLine, IsTyped, IsTypedFrom, IsTypingLine, LinksTo, AreRuleLinesOf};
 ghost use Rattle.kilim_stages.specs.Reports.{IsStageReport, IsTypingReport};
+ghost use Rattle.kilim_stages.specs.Runs.{RunsApart};
 
 use crate::classes::classes_of;
+use crate::laws::accepted_runs_apart;
 use crate::refusal::Refusal;
 use kilim_class_file::ClassFile;
 use kilim_isolation::{CheckFault, Isolated, Report, check_program};
@@ -135,17 +138,31 @@ pub fn typed_program(alloc: Global, names: &[String], files: &[Seq<u8>]) -> Resu
     }
 }
 
+// What the type of a typed program keeps of it.
+fn open(typed: &Typed)
+    ensures { Keeps typed.now.program }
+{
+    let program = &typed.program;
+    let _classes = &program.classes;
+}
+
 /// The accepted program of the class files with these bytes, linked in their order; or the report of the first stage
 /// that has a fault: a file that is no class file, by its name, a class that doesn't link, a broken rule of typing, or all
-/// broken rules of isolation and pausing. There are at most 1,000 files, and a name for each.
+/// broken rules of isolation and pausing. Where it is accepted, in no interleaving is an object reached by two threads, whatever the
+/// main class and the limits are (`RunsApart`). There are at most 1,000 files, and a name for each.
 pub fn accepted(alloc: Global, names: &[String], files: &[Seq<u8>]) -> Result<Isolated, Refusal>
     requires few { length files.now ≤ 1000 }
     requires same { length names.now ≡ length files.now }
     ensures accepted { IfOk result (λ isolated. IsAcceptedOf files.now isolated.typed.program) }
+    ensures runs { IfOk result (λ isolated. RunsApart isolated.typed.program) }
     ensures report { IfReport result (IsStageReport (map string_bytes names.now) files.now) }
 {
+    accepted_runs_apart();
     match typed_program(alloc, names, files) {
-        Ok(typed) => isolated(alloc, typed),
+        Ok(typed) => {
+            open(&typed);
+            isolated(alloc, typed)
+        }
         Err(refusal) => Err(refusal),
     }
 }

@@ -1,4 +1,3 @@
-pub mod checked_runs
 pub mod instruction_examples
 pub mod link_examples
 pub mod linked_weaving

@@ -1,7 +1,6 @@
 //! Theorems that no call needs, and examples that are computed: doors for a reader. No program calls them to do work.
 #![tactic(auto)]
 
-pub mod checked_runs;
 pub mod instruction_examples;
 pub mod link_examples;
 pub mod linked_weaving;
