@@ -1,5 +1,9 @@
 pub mod Room
 pub mod Held
+pub mod Throwing
+pub mod Handling
+pub mod Tables
+pub mod Words
 pub mod Still
 pub mod Paths
 pub mod Added
@@ -13,6 +17,7 @@ pub mod Pauses
 pub mod Natural
 pub mod Catching
 pub mod Forward
+pub mod Thrown
 pub mod PlainStep
 pub mod Leaves
 pub mod Waits

@@ -1,2 +1,4 @@
 pub mod Law
+pub mod Throwing
+pub mod Handling
 pub mod beginnings

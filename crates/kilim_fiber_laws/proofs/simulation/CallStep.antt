@@ -2,7 +2,6 @@
 use Rattle.std.proofs.Common.{◌≡◌, ◌≢◌, inl, inr, ℕ, suc, ◌+◌, ◌*◌, ◌≤◌, Bool, true, false, List, [], ◌∷◌, ◌++◌, length, Option, Some, None, refl, sym, ap, subst, ◌∙◌, arith, zero}
 use Rattle.std.specs.Prelude.{nat_le, nat_lt, if◌then◌else◌}
 use Rattle.std.proofs.lemmas.Bool.{false≢true}
-use Rattle.kilim_run_state.specs.declared.cause.EndCause.{EndCause}
 use Rattle.kilim_run_state.specs.declared.cause.EndCause.TheVariants as cause
 use Rattle.kilim_program.specs.declared.class.Method.{Method}
 use Rattle.kilim_program.specs.declared.instr.Instr.{Instr}
@@ -155,7 +154,7 @@ module _ (set : Setting) (W : Program) (marks : List (List Bool)) (most : ℕ) (
         path.joins set W marks most Q runs
         (path.one set W marks most Q runs c m ((form m).at p) wl s b (Fiber_at (left_overs links) (Saved old was []) [] false false) w ps (instr.Aload (fiber_slot (form m).method)) grp.down_at false (Goes grp.down_at wl (value.Fiber ∷ s) w.heap) grp.load refl
         (add.aload W (own_of W m) grp.down_at wl s w.heap (fiber_slot (form m).method) value.Fiber holds.fiber add.fiber_is_reference)
-        (let h = high in path.goes_room set.program W m b w.heap grp.down_at wl (value.Fiber ∷ s) w.heap (omega (arith, low, h))) th (λ on. (on, refl, refl)))
+        (let h = high in path.goes_room set.program W m b w.heap grp.down_at wl (value.Fiber ∷ s) w.heap (omega (arith, low, h))) th (λ on. (on, refl, refl)) (λ on. tt))
         (path.calls set W marks most Q runs (suc c) m grp.down_at wl (value.Fiber ∷ s) s b (Fiber_at (left_overs links) (Saved old was []) [] false false) w ps (instr.Invokevirtual (member set.program 1)) ((form m).call_at p) (member set.program 1) (value.Fiber ∷ []) Down grp.down
         (members.alone 1 Down refl refl (own_of W m) ((form m).call_at p) wl s w.heap) (members.named 1 Down refl) (let h = high in omega (arith, low, h)) (tt, th))
 
@@ -418,7 +417,7 @@ module _ (set : Setting) (W : Program) (marks : List (List Bool)) (most : ℕ) (
               (path.next_room set W marks m ((form m).call_at p) wl (value.Fiber ∷ s) b f1 w ps i up true (handed up wl (does set.program (own_of set.program m) i to l s w.heap)) grp.call
               (rows.hands m p i callee to up l wl s w.heap hf hp (known.old_heap m p l s x (u_frames links) w typed) (known.clean m p to i l s x (u_frames links) w typed hf))
               (handed_room (does set.program (own_of set.program m) i to l s w.heap) (rows.shapes m p i callee to l s w.heap hf hp (known.clean m p to i l s x (u_frames links) w typed hf))
-              (λ k args s2 d. rows.natives m p i callee to l s s2 args w.heap k hf hp (known.clean m p to i l s x (u_frames links) w typed hf) d) (known.room m p to i l s x (u_frames links) w typed hf) (known.gives m p to i l s x (u_frames links) w typed hf)) (λ on. absurd (false≢true on)))
+              (λ k args s2 d. rows.natives m p i callee to l s s2 args w.heap k hf hp (known.clean m p to i l s x (u_frames links) w typed hf) d) (known.room m p to i l s x (u_frames links) w typed hf) (known.gives m p to i l s x (u_frames links) w typed hf)) (λ on. absurd (false≢true on)) (λ on. absurd (false≢true on)))
               (tt, th)
 
           next_held : NextHeld set (step set here)

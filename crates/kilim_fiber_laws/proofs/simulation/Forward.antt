@@ -113,12 +113,12 @@ module _ (set : Setting) (W : Program) (marks : List (List Bool)) (most : ℕ) (
       let LL = fiber_slot (form m).method in (
         path.joins set W marks most Q runs
             (path.one set W marks most Q runs c m ((form m).up_at from) wl s b f0 w ps (instr.Aload LL) h.0 false (Goes h.0 wl (value.Fiber ∷ s) w.heap) h.1 refl (add.aload W (own_of W m) h.0 wl s w.heap LL value.Fiber good.3.fiber add.fiber_is_reference)
-            (path.goes_room set.program W m b w.heap h.0 wl (value.Fiber ∷ s) w.heap (omega (arith, low, high, one_more))) th (λ on. (on, refl, refl)))
+            (path.goes_room set.program W m b w.heap h.0 wl (value.Fiber ∷ s) w.heap (omega (arith, low, high, one_more))) th (λ on. (on, refl, refl)) (λ on. tt))
             (path.joins set W marks most Q runs
             (path.calls set W marks most Q runs (suc c) m h.0 wl (value.Fiber ∷ s) s b f0 w ps (instr.Invokevirtual (member set.program 2)) h.2.0 (member set.program 2) (value.Fiber ∷ []) Up h.2.1
             (members.alone 2 Up refl refl (own_of W m) h.2.0 wl s w.heap) (members.named 2 Up refl) (omega (arith, low, high, one_more)) (tt, th))
             (path.one set W marks most Q runs (suc (suc c)) m h.2.0 wl (value.Int (pos 0) ∷ s) b f1 w ps (instr.Ifeq ((form m).at to)) h.2.2.0 false (Goes ((form m).at to) wl s w.heap) h.2.2.1 refl (add.if_zero W (own_of W m) h.2.2.0 wl s w.heap ((form m).at to))
-            (path.goes_room set.program W m b w.heap ((form m).at to) wl s w.heap (omega (arith, low, high, one_more))) (tt, th) (λ on. (on, refl, refl)))),
+            (path.goes_room set.program W m b w.heap ((form m).at to) wl s w.heap (omega (arith, low, high, one_more))) (tt, th) (λ on. (on, refl, refl)) (λ on. tt))),
         record { alike = λ k z. good.2 k (g.kept k z); held = held_true m l wl self (form m).has_calls g.has_calls good.3; stacked = goods },
       )
 

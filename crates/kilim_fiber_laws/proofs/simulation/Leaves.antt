@@ -26,7 +26,9 @@ use Rattle.kilim_fiber_spec.specs.Serves.{Rows}
 use Rattle.kilim_weave_spec.specs.Woven.{below, receiver}
 use Rattle.kilim_fiber_spec.specs.Links.{again, Link, Lk, u_frames, left_overs, rev_onto, bares, Target, Inner, Leaf, Forms, code, w_frames, Good, Goods, LeafTakes, AreReady, Fw, at_rest, at_leaf, plan_of}
 use Rattle.kilim_type_sound.specs.Fits.{AreThere}
+use Rattle.kilim_fiber_laws.specs.simulation.Throwing.{behind_native}
 use Rattle.kilim_fiber_laws.proofs.simulation.Still.{StepIsKnown}
+use Rattle.kilim_fiber_laws.proofs.simulation.Throwing.{called_same}
 use Rattle.kilim_fiber_laws.proofs.simulation.Paths as path
 use Rattle.kilim_fiber_laws.proofs.simulation.Natural.{Outcome, GoesOn, IsOver, IsRaised, fold, Counts, native_same}
 use Rattle.kilim_fiber_laws.proofs.simulation.Unwinds.{count_of, push_low, rests}
@@ -135,7 +137,8 @@ module _ (set : Setting) (W : Program) (marks : List (List Bool)) (most : ℕ) (
         runs m ((form m).call_at from) wl (value.Fiber ∷ again callee box s) (w_frames set W marks form links) f2 w ps
             (path.next_room set W marks m ((form m).call_at from) wl (value.Fiber ∷ again callee box s) (w_frames set W marks form links) f2 w ps i q true (Asks redo.0 (redo.1 ++ value.Fiber ∷ []) q wl s w.heap) g.call
             (rows.hands m from i callee to q wl wl (again callee box s) w.heap good.0 good.1 ready.0.4 ready.0.5 ∙ ap (handed q wl) (redo.2 wl s))
-            (path.asks_room set.program W m (w_frames set W marks form links) w.heap redo.0 (redo.1 ++ value.Fiber ∷ []) q wl s w.heap (omega (arith, low, high)) (λ r n g. keeps_leaf leaf box r n redo.1 callee.result redo.4 (subst (λ (o : Option Native). given o (redo.1 ++ value.Fiber ∷ []) ≡ Some (r, n)) (rows.same_natives redo.0 nn.0 ∙ redo.3) g))) (λ on. absurd (false≢true on)))
+            (path.asks_room set.program W m (w_frames set W marks form links) w.heap redo.0 (redo.1 ++ value.Fiber ∷ []) q wl s w.heap (omega (arith, low, high)) (λ r n g. keeps_leaf leaf box r n redo.1 callee.result redo.4 (subst (λ (o : Option Native). given o (redo.1 ++ value.Fiber ∷ []) ≡ Some (r, n)) (rows.same_natives redo.0 nn.0 ∙ redo.3) g))) (λ on. absurd (false≢true on))
+            (λ on raise other. called_same set W marks (behind_native set W marks m q wl s (w_frames set W marks form links)) raise other form (Saved old was [] ∷ left_overs links) (Saved 0 box []) [] false w ps redo.0 leaf box redo.1 callee.result nn.0 (rows.same_natives redo.0 nn.0 ∙ redo.3) redo.4))
             (tt, again_there set W marks most Q runs members form facts rows.hands w.heap callee (below (plan_of set W marks form m) callee from) (receiver (plan_of set W marks form m) callee from) box s ready.0.0 ready.0.2),
       )
 

@@ -1,5 +1,5 @@
 -- Paths of the woven machine: joining them, and single instructions.
-use Rattle.std.proofs.Common.{◌≡◌, ℕ, suc, ◌+◌, ◌<◌, ◌≤◌, Bool, true, false, not, ◌&&◌, List, ◌∷◌, length, Option, Some, None, refl, sym, ap, subst, ◌∙◌, arith}
+use Rattle.std.proofs.Common.{◌≡◌, ℕ, suc, ◌+◌, ◌<◌, ◌≤◌, Bool, true, false, not, ◌&&◌, ◌||◌, List, ◌∷◌, length, Option, Some, None, refl, sym, ap, subst, ◌∙◌, arith}
 use Rattle.kilim_program.specs.declared.instr.Instr.{Instr}
 use Rattle.kilim_program.specs.declared.names.MethodId.{MethodId}
 use Rattle.kilim_program.specs.declared.value.Value.{Value}
@@ -22,6 +22,7 @@ use Rattle.kilim_fiber_spec.specs.Form.{HasAt}
 use Rattle.kilim_fiber_spec.specs.Runs.{Comes, stop, idle, mark}
 use Rattle.kilim_fiber_spec.specs.Rooms.{GivesWhole, HasRoom, MemberHasRoom}
 use Rattle.kilim_type_sound.specs.Fits.{AreThere}
+use Rattle.kilim_fiber_laws.specs.simulation.Throwing.{ThrowsNothing, behind_native}
 use Rattle.kilim_fiber_laws.proofs.simulation.Still.{IsStill, PausesOn, StepIsKnown, member_still}
 use Rattle.kilim_run_interp.specs.Step.{stack_limit}
 
@@ -71,12 +72,16 @@ module _ (P W : Program) (m : MethodId) (b : List Activation) (now : Objects) wh
 
 module _ (set : Setting) (W : Program) (marks : List (List Bool)) (m : MethodId) (p : ℕ) (l s : List Value) (b : List Activation) (f : Fib) (w : World) (ps : List ℕ) (i : Instr) (nx : ℕ) (mk : Bool) (e : Effect) where
   -- where this instruction stands there, and does that
-  pub next_room : wfetch set W marks m p ≡ Some (i, nx, mk) → does W (own_of W m) i nx l s w.heap ≡ e → Roomy set.program W m b w.heap e → PausesOn set W marks (WRun m p l s b f w ps) → StepIsKnown set W marks (WRun m p l s b f w ps)
-  next_room h d r still = (
+  pub next_room : wfetch set W marks m p ≡ Some (i, nx, mk) → does W (own_of W m) i nx l s w.heap ≡ e → Roomy set.program W m b w.heap e → PausesOn set W marks (WRun m p l s b f w ps)
+      → ((is_pausing f || is_rewinding f) ≡ true → ThrowsNothing set W marks m b f w ps e) → StepIsKnown set W marks (WRun m p l s b f w ps)
+  next_room h d r still calm = (
     λ j n c g.
         subst (λ (z : Instr × ℕ × Bool). Roomy set.program W m b w.heap (does W (own_of W m) z.0 z.1 l s w.heap)) (found_is (i, nx, mk) (j, n, c) (sym h ∙ g))
         (subst (λ (x : Effect). Roomy set.program W m b w.heap x) (sym d) r),
     still,
+    λ on j n c g.
+        subst (λ (z : Instr × ℕ × Bool). ThrowsNothing set W marks m b f w ps (does W (own_of W m) z.0 z.1 l s w.heap)) (found_is (i, nx, mk) (j, n, c) (sym h ∙ g))
+        (subst (λ (x : Effect). ThrowsNothing set W marks m b f w ps x) (sym d) (calm on)),
   )
 
 module _ (set : Setting) (W : Program) (marks : List (List Bool)) (most : ℕ) (Q : Woven_state → Type 0)
@@ -101,9 +106,9 @@ module _ (set : Setting) (W : Program) (marks : List (List Bool)) (most : ℕ) (
   -- one uncounted instruction
   pub one : (c : ℕ) (m : MethodId) (p : ℕ) (l s : List Value) (b : List Activation) (f : Fib) (w : World) (ps : List ℕ) (i : Instr) (nx : ℕ) (mk : Bool) (e : Effect)
       → wfetch set W marks m p ≡ Some (i, nx, mk) → (mk && not (is_rewinding f)) ≡ false → does W (own_of W m) i nx l s w.heap ≡ e → Roomy set.program W m b w.heap e → AreThere w.heap s → (is_pausing f ≡ true → IsStill w ps (weffect set W marks false e (frame m p l s) b f w ps))
-      → To c (WRun m p l s b f w ps) (suc c) (weffect set W marks false e (frame m p l s) b f w ps)
-  one c m p l s b f w ps i nx mk e h n d r th still =
-      idle (runs m p l s b f w ps (next_room set W marks m p l s b f w ps i nx mk e h d r (λ on. subst (λ (y : Woven_state). IsStill w ps y) (sym (found m p l s b f w ps i nx mk false e h n d)) (still on))) th) (subst (λ (z : Woven_state). To (suc c) (wstep set W marks (WRun m p l s b f w ps)) (suc c) z) (found m p l s b f w ps i nx mk false e h n d) stop)
+      → ((is_pausing f || is_rewinding f) ≡ true → ThrowsNothing set W marks m b f w ps e) → To c (WRun m p l s b f w ps) (suc c) (weffect set W marks false e (frame m p l s) b f w ps)
+  one c m p l s b f w ps i nx mk e h n d r th still calm =
+      idle (runs m p l s b f w ps (next_room set W marks m p l s b f w ps i nx mk e h d r (λ on. subst (λ (y : Woven_state). IsStill w ps y) (sym (found m p l s b f w ps i nx mk false e h n d)) (still on)) calm) th) (subst (λ (z : Woven_state). To (suc c) (wstep set W marks (WRun m p l s b f w ps)) (suc c) z) (found m p l s b f w ps i nx mk false e h n d) stop)
 
   -- a call of a member of the fiber
   pub calls : (c : ℕ) (m : MethodId) (p : ℕ) (l s s2 : List Value) (b : List Activation) (f : Fib) (w : World) (ps : List ℕ) (i : Instr) (nx : ℕ) (id : MethodId) (args : List Value) (k : FiberMember)
@@ -112,7 +117,8 @@ module _ (set : Setting) (W : Program) (marks : List (List Bool)) (most : ℕ) (
   calls c m p l s s2 b f w ps i nx id args k h d e r th =
       subst (λ (o : Option FiberMember). To c (WRun m p l s b f w ps) (suc c) (wasks set W marks (λ (f2 : Fib) (after : World) (rest : List ℕ) (v : Option Value). WRun m nx l (push v s2) b f2 after rest) (wraised_behind set W marks (frame m nx l s2 ∷ b)) o (native_of W id) args f w ps)) e
       (one c m p l s b f w ps i nx false (Asks id args nx l s2 w.heap) h refl d (asks_room set.program W m b w.heap id args nx l s2 w.heap r (λ root n g. keeps_all (native_of W id) k args root n e g)) th
-      (λ on. subst (λ (o : Option FiberMember). IsStill w ps (wasks set W marks (λ (f2 : Fib) (after : World) (rest : List ℕ) (v : Option Value). WRun m nx l (push v s2) b f2 after rest) (wraised_behind set W marks (frame m nx l s2 ∷ b)) o (native_of W id) args f w ps)) (sym e) (member_still nx m l s2 b w ps k args f on)))
+      (λ on. subst (λ (o : Option FiberMember). IsStill w ps (wasks set W marks (λ (f2 : Fib) (after : World) (rest : List ℕ) (v : Option Value). WRun m nx l (push v s2) b f2 after rest) (wraised_behind set W marks (frame m nx l s2 ∷ b)) o (native_of W id) args f w ps)) (sym e) (member_still nx m l s2 b w ps k args f on))
+      (λ on raise other. subst (λ (o : Option FiberMember). wasks set W marks (behind_native set W marks m nx l s2 b) raise o (native_of W id) args f w ps ≡ wasks set W marks (behind_native set W marks m nx l s2 b) other o (native_of W id) args f w ps) (sym e) refl))
 
   -- from x the machine comes to a place of m where `rest` stands, with at most as many instructions as there are places between
   pub record Reach (m : MethodId) (rest : List Item) (c q : ℕ) (x : Woven_state) (l s : List Value) (b : List Activation) (f : Fib) (w : World) (ps : List ℕ) : Type 0 where

@@ -234,7 +234,7 @@ module _ (set : Setting) (W : Program) (marks : List (List Bool)) (most : ℕ) (
             way = path.joins set W marks most Q runs r1.way (path.joins set W marks most Q runs t2.way (path.joins set W marks most Q runs t3.way
                 (path.one set W marks most Q runs t3.count m t3.place l2 (value.Int (pos (place_while re p0)) ∷ []) b (Fiber_at lo (Saved p0 y0 vs) de re pa) w ps sw u.0 false (Goes (goes_by (place_while re p0)) l2 [] w.heap) u.1 refl
                 (add.table W (own_of W m) u.0 l2 [] w.heap ((form m).at 0) (resume_places x 1 (form m).method.code) (place_while re p0))
-                (path.goes_room set.program W m b w.heap (goes_by (place_while re p0)) l2 [] w.heap (tally.none_within (stack_limit W m))) (tt, tt) (λ on. (on, refl, refl)))));
+                (path.goes_room set.program W m b w.heap (goes_by (place_while re p0)) l2 [] w.heap (tally.none_within (stack_limit W m))) (tt, tt) (λ on. (on, refl, refl)) (λ on. tt))));
           }
 
       asks : (h0 : Starts set.program W (code set W marks) (form m) true) (r1 : Reach (keep_self x (load_fiber x ∷ calls_member x 0 ∷ switch_item x ∷ h0.0)) c 0 (WRun m 0 l0 [] b (Fiber_at lo (Saved p0 y0 vs) de re pa) w ps) (slice_set l0 L value.Fiber) [] b (Fiber_at lo (Saved p0 y0 vs) de re pa) w ps) (l2 : List Value) → Sets y l0 l2

@@ -172,7 +172,7 @@ module _ (set : Setting) (W : Program) (marks : List (List Bool)) (most : ℕ) (
               path.joins set W marks most Q runs r.way
                   (path.one set W marks most Q runs r.count m r.place (put_back (saved x from to) wl l0) (again callee y s) b (Fiber_at lo (Saved n self []) (Saved p2 y vs2 ∷ de) true false) w ps (instr.Goto ((form m).at from)) g.0 false (Goes ((form m).at from) (put_back (saved x from to) wl l0) (again callee y s) w.heap) g.1 refl
                   (add.goto W (own_of W m) g.0 (put_back (saved x from to) wl l0) (again callee y s) w.heap ((form m).at from))
-                  (path.goes_room set.program W m b w.heap ((form m).at from) (put_back (saved x from to) wl l0) (again callee y s) w.heap (omega (arith, low))) (again_there w.heap callee (below x callee from) (receiver x callee from) y s fits recv) (λ on. (on, refl, refl))),
+                  (path.goes_room set.program W m b w.heap ((form m).at from) (put_back (saved x from to) wl l0) (again callee y s) w.heap (omega (arith, low))) (again_there w.heap callee (below x callee from) (receiver x callee from) y s fits recv) (λ on. (on, refl, refl)) (λ on. tt)),
             )
 
   -- ---- one frame comes back
@@ -250,7 +250,7 @@ module _ (set : Setting) (W : Program) (marks : List (List Bool)) (most : ℕ) (
         way = path.joins set W marks most Q runs to_block (path.joins set W marks most Q runs bl.2
             (path.joins set W marks most Q runs
             (path.one set W marks most Q runs bl.0 m ((form m).at from) l2 (again callee y s) b f1 w ps (instr.Aload LL) g.down_at false (Goes g.down_at l2 (value.Fiber ∷ again callee y s) w.heap) g.load refl (add.aload W (own_of W m) g.down_at l2 (again callee y s) w.heap LL value.Fiber fiber2 add.fiber_is_reference)
-            (path.goes_room set.program W m b w.heap g.down_at l2 (value.Fiber ∷ again callee y s) w.heap (omega (arith, low, high))) th (λ on. (on, refl, refl)))
+            (path.goes_room set.program W m b w.heap g.down_at l2 (value.Fiber ∷ again callee y s) w.heap (omega (arith, low, high))) th (λ on. (on, refl, refl)) (λ on. tt))
             (path.calls set W marks most Q runs (suc bl.0) m g.down_at l2 (value.Fiber ∷ again callee y s) (again callee y s) b f1 w ps (instr.Invokevirtual (member set.program 1)) ((form m).call_at from) (member set.program 1) (value.Fiber ∷ []) Down g.down
             (members.alone 1 Down refl refl (own_of W m) ((form m).call_at from) l2 (again callee y s) w.heap) (members.named 1 Down refl) (omega (arith, low, high)) (tt, th))));
       }
@@ -302,7 +302,7 @@ module _ (set : Setting) (W : Program) (marks : List (List Bool)) (most : ℕ) (
             (path.one set W marks most Q runs c m ((form m).call_at from) wl2 (value.Fiber ∷ again callee y s) (w_frames set W marks form links) f w ps i q true
             (Calls (method_of k2) (redo.0 ++ value.Fiber ∷ []) q wl2 s w.heap) g.call refl
             (hands m from i callee to q wl2 wl2 (again callee y s) w.heap good.0 good.1 fit.4 fit.5 ∙ ap (handed q wl2) (redo.1 wl2 s))
-            (path.calls_room set.program W m (w_frames set W marks form links) w.heap (method_of k2) (redo.0 ++ value.Fiber ∷ []) q wl2 s w.heap (omega (arith, low, high))) (tt, again_there w.heap callee (below (plan_of set W marks form m) callee from) (receiver (plan_of set W marks form m) callee from) y s fit.0 fit.2) (λ on. absurd (false≢true on))),
+            (path.calls_room set.program W m (w_frames set W marks form links) w.heap (method_of k2) (redo.0 ++ value.Fiber ∷ []) q wl2 s w.heap (omega (arith, low, high))) (tt, again_there w.heap callee (below (plan_of set W marks form m) callee from) (receiver (plan_of set W marks form m) callee from) y s fit.0 fit.2) (λ on. absurd (false≢true on)) (λ on. tt)),
       )
 
   pub rewinds : (leaf : Native) (box : Value) (ks : List Link) (k : Link) (links : List Link) (args : List Value) (c : ℕ) (w : World) (ps : List ℕ)

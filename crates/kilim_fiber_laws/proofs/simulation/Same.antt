@@ -27,7 +27,7 @@ use Rattle.kilim_program.specs.declared.names.ClassId.{ClassId}
 use Rattle.kilim_fiber_spec.specs.Fibers.{frame, Fib, Woven_state, WRun, Resting, WStop, wstep}
 use Rattle.kilim_fiber_spec.specs.Form.{Facts, Members, longest}
 use Rattle.kilim_fiber_spec.specs.Runs.{most_uncounted, Comes, stop, idle, mark}
-use Rattle.kilim_fiber_spec.specs.Serves.{Rows, Known, StandsFor}
+use Rattle.kilim_fiber_spec.specs.Serves.{From, Rows, Known, StandsFor}
 use Rattle.kilim_fiber_spec.specs.Links.{u_stack, Forms, code, Both, Fw, unwoven, woven, Fine}
 use Rattle.kilim_fiber_laws.proofs.simulation.Natural.{Outcome, GoesOn, IsOver, IsRaised, fold, Counts, ending_is, native_same, opens_same}
 use Rattle.std.proofs.lemmas.Bool.{le-leb}
@@ -36,6 +36,7 @@ use Rattle.kilim_fiber_spec.specs.Thread.{steps, own_of}
 use Rattle.kilim_fiber_spec.specs.Fibers.{wsteps}
 use Rattle.kilim_fiber_spec.specs.Runs.{ComesToRest, IsMark, Soon}
 use Rattle.kilim_fiber_spec.specs.Serves.{Serves}
+use Rattle.kilim_fiber_laws.specs.simulation.Throwing.{ExceptionsMeetNone, IsCalm}
 use Rattle.kilim_fiber_laws.proofs.simulation.Still.{StepIsKnown, comes_to_rest}
 use Rattle.kilim_fiber_laws.proofs.simulation.Room.{StackIsThere, is_fine}
 use Rattle.kilim_type_sound.specs.Fits.{AreThere}
@@ -235,13 +236,23 @@ module _ (set : Setting) (W : Program) (marks : List (List Bool)) (most : ℕ)
   ended : (t : Both) → Fine set W marks form t → Typed (unwoven t) → Ended_run t
   ended (Fw m p s l wl x ov links old was w ps) fine typed =
       let r = run_ends set set.limits.steps m p l s x (u_stack ov links) w (omega arith) in
-      by r.0 r.1 r.2 (whole.follows set W marks most (At_some (Run m p l s x (u_stack ov links) w)) (runs_of (Run m p l s x (u_stack ov links) w)) members form facts rows enough Typed known r.0 (Fw m p s l wl x ov links old was w ps) 0 (omega arith) fine typed (λ j g v rest h. ((j, h), (tt, tt), tt)))
+      by r.0 r.1 r.2 (whole.follows set W marks most (At_some (Run m p l s x (u_stack ov links) w)) (runs_of (Run m p l s x (u_stack ov links) w)) members form facts rows enough Typed known r.0 (Fw m p s l wl x ov links old was w ps) 0 (omega arith) fine typed (λ j g v rest h. ((j, h), (tt, tt, tt), tt)))
     where
       by : (n : ℕ) (o : Over) → steps set n (Run m p l s x (u_stack ov links) w) ≡ Stop o
           → Match set W marks most (At_some (Run m p l s x (u_stack ov links) w)) (runs_of (Run m p l s x (u_stack ov links) w)) members form facts rows enough (steps set n (Run m p l s x (u_stack ov links) w)) 0 (woven set W marks form (Fw m p s l wl x ov links old was w ps))
           → Ended_run (Fw m p s l wl x ov links old was w ps)
       by n o e (Overs o2 e2 d few way) = record { over = o2; n = n; ends = e2; count = d; few = few; way = way }
       by n o e (Goes_on (Fw m2 p2 s2 l2 wl2 x2 ov2 links2 old2 was2 w2 ps2) e2 d few way fine2) = absurd (false≢true (ap is_run (sym e ∙ e2)))
+
+  -- an exception never meets a fiber that pauses or rewinds
+  pub stays_calm : (t : Both) → Fine set W marks form t → Typed (unwoven t) → (j : ℕ) → IsCalm set W marks (wsteps set W marks j (woven set W marks form t))
+  stays_calm t fine typed j =
+      let r = ended t fine typed in
+      by r.over (at_each set W marks most (At_some (unwoven t)) r.way j)
+    where
+      by : (o : Over) → At_some (unwoven t) (wsteps set W marks j (woven set W marks form t)) ⊎ ((k : ℕ) × (wsteps set W marks j (woven set W marks form t) ≡ wsteps set W marks k (WStop o))) → IsCalm set W marks (wsteps set W marks j (woven set W marks form t))
+      by o (inl q) = q.1.2
+      by o (inr k) = subst (λ (z : Woven_state). IsCalm set W marks z) (sym (k.1 ∙ wstays set W marks k.0 o)) tt
 
   pub serves : Serves set W marks form most Typed
   serves = record { ends = ends_alike; rests = rests_stand; soon = marks_soon; pausing = all_rest; fine = all_fine }
@@ -279,7 +290,7 @@ module _ (set : Setting) (W : Program) (marks : List (List Bool)) (most : ℕ)
         where
           by : (o : Over) → At_some (unwoven t) (wsteps set W marks j (woven set W marks form t)) ⊎ ((k : ℕ) × (wsteps set W marks j (woven set W marks form t) ≡ wsteps set W marks k (WStop o))) → StepIsKnown set W marks (wsteps set W marks j (woven set W marks form t)) × StackIsThere set W marks (wsteps set W marks j (woven set W marks form t))
           by o (inl q) = (q.1, q.2)
-          by o (inr k) = subst (λ (z : Woven_state). StepIsKnown set W marks z × StackIsThere set W marks z) (sym (k.1 ∙ wstays set W marks k.0 o)) ((tt, tt), tt)
+          by o (inr k) = subst (λ (z : Woven_state). StepIsKnown set W marks z × StackIsThere set W marks z) (sym (k.1 ∙ wstays set W marks k.0 o)) ((tt, tt, tt), tt)
 
       never_lost : (t : Both) → Fine set W marks form t → Typed (unwoven t) → (j : ℕ) → wsteps set W marks j (woven set W marks form t) ≢ WStop Lost
       never_lost t fine typed j e = let h = (ends_alike t fine typed Lost).1 (j, e) in none_lost set W marks form Typed known h.0 (unwoven t) typed (run_not_lost t) h.1
@@ -295,3 +306,6 @@ module _ (set : Setting) (W : Program) (marks : List (List Bool)) (most : ℕ)
 pub bound_is_enough : calm + 8 + 512 * longest ≤ most_uncounted
 unfolding most_uncounted
 bound_is_enough = omega arith
+
+pub exceptions_meet_none : ExceptionsMeetNone
+exceptions_meet_none set W marks form members facts rows first known = stays_calm set W marks most_uncounted members form facts rows bound_is_enough (From set first) known

@@ -14,6 +14,7 @@ use Rattle.kilim_fiber_spec.specs.Acts.{Lost, World, ending}
 use Rattle.kilim_fiber_spec.specs.Fibers.{Fib, Fiber_at, Saved, Woven_state, WRun, Resting, WStop, is_pausing, member_does, wfinishes, wreturns, wstep, wsteps}
 use Rattle.kilim_fiber_spec.specs.Runs.{ComesToRest, IsMark, Soon, done_in}
 use Rattle.kilim_fiber_spec.specs.Thread.{push}
+use Rattle.kilim_fiber_laws.specs.simulation.Throwing.{IsCalm}
 use Rattle.kilim_fiber_laws.proofs.simulation.Room.{NextHasRoom}
 
 -- it pauses still, or rests, in that world and with these pauses to come
@@ -95,4 +96,4 @@ module _ (set : Setting) (W : Program) (marks : List (List Bool)) where
   -- ---- what is known of a step
 
   abbrev pub StepIsKnown : Woven_state → Type 0
-  StepIsKnown z = NextHasRoom set W marks z × PausesOn z
+  StepIsKnown z = NextHasRoom set W marks z × PausesOn z × IsCalm set W marks z

@@ -45,7 +45,7 @@ module _ (set : Setting) (W : Program) (marks : List (List Bool)) (most : ℕ) (
       → Reach rest (suc c) nx (WRun m nx l2 s2 b f w ps) l3 s3 b f3 w ps → Reach rest c q (WRun m q l s b f w ps) l3 s3 b f3 w ps
   goes rest c q nx i mk l s l2 s2 l3 s3 b f f3 w ps h n d low th r =
       path.behind set W marks most Q runs m rest c q nx (WRun m q l s b f w ps) l2 s2 l3 s3 b f f3 w ps ((facts m).grows q nx i mk h)
-      (path.one set W marks most Q runs c m q l s b f w ps i nx mk (Goes nx l2 s2 w.heap) h n d (path.goes_room set.program W m b w.heap nx l2 s2 w.heap low) th (λ on. (on, refl, refl))) r
+      (path.one set W marks most Q runs c m q l s b f w ps i nx mk (Goes nx l2 s2 w.heap) h n d (path.goes_room set.program W m b w.heap nx l2 s2 w.heap low) th (λ on. (on, refl, refl)) (λ on. tt)) r
 
   -- a call of a member of the fiber that goes on
   pub member_goes : (rest : List Item) (c q nx : ℕ) (i : Instr) (id : MethodId) (args : List Value) (k : FiberMember) (l s s2 l3 s3 : List Value) (b : List Activation) (f f2 f3 : Fib) (v : Option Value) (w : World) (ps : List ℕ)

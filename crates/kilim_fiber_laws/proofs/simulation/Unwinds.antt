@@ -85,8 +85,8 @@ module _ (set : Setting) (W : Program) (marks : List (List Bool)) (most : ℕ) (
         let g2 = (facts m).grows h.0 h.2.0 (return_of t) false h.2.1 in
         let g3 = (facts m).within h.0 h.2.0 (return_of t) h.2.1 in (
           path.joins set W marks most Q runs
-              (path.one set W marks most Q runs c m q l [] b f w ps (dummy_of t) h.0 false (Goes h.0 l (dummy_value t ∷ []) w.heap) h.1 refl (pushes t) (path.goes_room set.program W m b w.heap h.0 l (dummy_value t ∷ []) w.heap low) tt (λ on. (on, refl, refl)))
-              (path.one set W marks most Q runs (suc c) m h.0 l (dummy_value t ∷ []) b f w ps (return_of t) h.2.0 false (Returns (Some (dummy_value t)) w.heap) h.2.1 refl (returns t) (record { unstuck = refl; fits = caller; result = tt }, tt, tt) (dummy_there w.heap t, tt) (return_still set W marks (Some (dummy_value t)) b f w ps kept)),
+              (path.one set W marks most Q runs c m q l [] b f w ps (dummy_of t) h.0 false (Goes h.0 l (dummy_value t ∷ []) w.heap) h.1 refl (pushes t) (path.goes_room set.program W m b w.heap h.0 l (dummy_value t ∷ []) w.heap low) tt (λ on. (on, refl, refl)) (λ on. tt))
+              (path.one set W marks most Q runs (suc c) m h.0 l (dummy_value t ∷ []) b f w ps (return_of t) h.2.0 false (Returns (Some (dummy_value t)) w.heap) h.2.1 refl (returns t) (record { unstuck = refl; fits = caller; result = tt }, tt, tt) (dummy_there w.heap t, tt) (return_still set W marks (Some (dummy_value t)) b f w ps kept) (λ on. tt)),
           tally.two_within q h.0 h.2.0 longest g1 g2 g3,
           wide t,
         )
@@ -111,7 +111,7 @@ module _ (set : Setting) (W : Program) (marks : List (List Bool)) (most : ℕ) (
     returns_dummy None rest c q l b f w ps h low caller kept =
         let g1 = (facts m).grows q h.0 instr.Return false h.1 in
         let g3 = (facts m).within q h.0 instr.Return h.1 in
-        (None, tt, suc c, tally.one_more c q h.0 longest g1 g3, path.one set W marks most Q runs c m q l [] b f w ps instr.Return h.0 false (Returns None w.heap) h.1 refl (add.return W (own_of W m) h.0 l [] w.heap) (record { unstuck = refl; fits = tt; result = tt }, tt, tt) tt (return_still set W marks None b f w ps kept), tt)
+        (None, tt, suc c, tally.one_more c q h.0 longest g1 g3, path.one set W marks most Q runs c m q l [] b f w ps instr.Return h.0 false (Returns None w.heap) h.1 refl (add.return W (own_of W m) h.0 l [] w.heap) (record { unstuck = refl; fits = tt; result = tt }, tt, tt) tt (return_still set W marks None b f w ps kept) (λ on. tt), tt)
     returns_dummy (Some ty) rest c q l b f w ps h low caller kept =
         let r = returns_by (vtype ty) rest c q l b f w ps h low caller kept in
         let g = r.1 in

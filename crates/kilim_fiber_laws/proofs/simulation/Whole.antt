@@ -125,7 +125,7 @@ module _ (set : Setting) (W : Program) (marks : List (List Bool)) (most : ℕ) (
           runs m ((form m).at p) wl s b f w ps
           (path.next_room set W marks m ((form m).at p) wl s b f w ps (moved_instr (form m).at i) st.next true (does W (own_of W m) (moved_instr (form m).at i) st.next wl s w.heap) st.is refl
           (subst (λ (e : Effect). path.Roomy set.program W m b w.heap e) (sym twins.same)
-          (moved_room m (form m).at twins.locals ov links w.heap (does set.program (own_of set.program m) i to l s w.heap) (λ k args q l2 s2 heap e. (twins.natives k args q l2 s2 heap e).0) roomy (known.gives m p to i l s x (u_stack ov links) w typed hf))) (λ on. absurd (false≢true on)))
+          (moved_room m (form m).at twins.locals ov links w.heap (does set.program (own_of set.program m) i to l s w.heap) (λ k args q l2 s2 heap e. (twins.natives k args q l2 s2 heap e).0) roomy (known.gives m p to i l s x (u_stack ov links) w typed hf))) (λ on. absurd (false≢true on)) (λ on. absurd (false≢true on)))
           (known.stack_there m p l s x (u_stack ov links) w typed)
 
       next_held : NextHeld set (step set (Run m p l s x (u_stack ov links) w))

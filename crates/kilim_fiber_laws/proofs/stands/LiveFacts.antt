@@ -3,6 +3,7 @@ use Rattle.std.proofs.Common.{◌≡◌, ◌⊎◌, inl, inr, ℕ, zero, suc, �
 use Rattle.std.specs.Prelude.{if◌then◌else◌, ◌==◌, sum_by}
 use Rattle.std.proofs.lemmas.Bool.{and_parts, and_from, eqb-true, false≢true}
 use Rattle.std.proofs.lemmas.List.Sums.{sum_by-cons}
+use Rattle.kilim_program.specs.declared.class.Handler.{Handler}
 use Rattle.kilim_program.specs.declared.class.Method.{Method}
 use Rattle.kilim_program.specs.declared.instr.Instr.{Instr}
 use Rattle.kilim_program.specs.declared.instr.Instr.TheVariants.{Istore, Lstore, Astore, Iinc, Invokevirtual, Invokespecial, Invokestatic}
@@ -14,17 +15,29 @@ use Rattle.kilim_program.specs.Lengths.{ends_path, fetched, jump_targets}
 use Rattle.kilim_program.specs.Program.{Program}
 use Rattle.kilim_program.specs.Same.{argument_slots, is_constructor, type_slots}
 use Rattle.kilim_type_spec.specs.Step.{Types, Is, peek, poke, is_top, meets, row, size, store, stored, split_long, vtype, class_vtype}
-use Rattle.kilim_type_spec.specs.Typed.{Among, GoesOn, Here, IsLive, Live, ReadsIt, TypedBy, WellTypedBy, declared, edges, entry, param_slots, reads, slots_of_type, this_types, writes}
+use Rattle.kilim_type_spec.specs.Typed.{Among, Catches, GoesOn, handlers_at, Here, IsLive, Live, ReadsIt, TypedBy, WellTypedBy, declared, edges, entry, param_slots, reads, slots_of_type, this_types, writes}
 use Rattle.kilim_type_laws.specs.Laws.{Arrives}
 use Rattle.kilim_type_laws.proofs.Edges.{edges_flow, stands_at}
 use Rattle.kilim_type_laws.proofs.Lives.{live_is_typed}
 use Rattle.kilim_type_laws.proofs.Rooms.{size_is}
 use Rattle.kilim_type_laws.proofs.Tops.{passed, read_has_type, top_flows, top_stays}
+use Rattle.kilim_run_machine.specs.Raising.{IsEntry, covers}
 use Rattle.kilim_weave_spec.specs.Woven.{pausable_callee, saved_from}
 use Rattle.kilim_fiber_spec.specs.Form.{Among_slots, sets}
 
 none_is : {A : Type 0} (a : A) → None ≡ Some a → ⊥
 none_is a e = cc
+
+-- an entry whose range has a place leads to its handler
+entry_among : (hs : List Handler) (at : ℕ) (h : Handler) → IsEntry hs h → covers h at ≡ true → Among (handlers_at hs at) h.at
+entry_among [] at h i c = absurd i
+entry_among (x ∷ hs) at h (inl e) c =
+    subst (λ (b : Bool). Among (if b then x.at ∷ handlers_at hs at else handlers_at hs at) h.at) (sym (ap (λ (z : Handler). covers z at) e ∙ c)) (inl (ap (λ (z : Handler). z.at) e))
+entry_among (x ∷ hs) at h (inr i) c = later (covers x at) (entry_among hs at h i c)
+  where
+    later : (b : Bool) → Among (handlers_at hs at) h.at → Among (if b then x.at ∷ handlers_at hs at else handlers_at hs at) h.at
+    later true a = inr a
+    later false a = a
 
 -- ---- what a store of a long leaves
 
@@ -213,6 +226,16 @@ module _ (p : Program) (keeps : Keeps p) (m : Method) (typing : ℕ → Types) (
       by : (b : Bool) → writes i k ≡ b → (shown q k ≡ true) ⊎ (sets i k ≡ true)
       by true w = inr (sets_it p keeps m typing well q to r k i e among (shown_typed r k h) w)
       by false w = inl (live_shown q k (GoesOn q to r i e w among (shown_live r k h)))
+
+  -- what is live at a handler is live at each instruction of its range
+  pub caught : (q to k : ℕ) (i : Instr) → fetched m.code m.code_length q ≡ Some (i, to) → (h : Handler) → IsEntry m.handlers h → covers h q ≡ true → shown h.at k ≡ true → shown q k ≡ true
+  caught q to k i e h among covering s = live_shown q k (Catches q to h.at i e (entry_among m.handlers q h among covering) (shown_live h.at k s))
+
+  -- what is among those that are saved: it is live at the call, and one of `lives`
+  pub kept_by : (lives : ℕ → Bool) (q k : ℕ) → lives k ≡ true → shown q k ≡ true → Among_slots (saved_from lives 0 (typing q).locals) k
+  kept_by lives q k l s =
+      let zero_and : 0 + k ≡ k = omega arith in
+      subst (λ (z : ℕ). Among_slots (saved_from lives 0 (typing q).locals) z) zero_and (among_saved lives 0 k (typing q).locals (ap lives zero_and ∙ l) (shown_typed q k s))
 
   -- what is live behind a pausable call is live at it
   across : (q to k : ℕ) (i : Instr) (callee : Method) → fetched m.code m.code_length q ≡ Some (i, to) → pausable_callee p i ≡ Some callee → Live m k to → Live m k q

@@ -138,7 +138,7 @@ module _ (set : Setting) (W : Program) (marks : List (List Bool)) (most : ℕ) (
         → Match set W marks most (At_some (unwoven t)) (runs_of (unwoven t)) members form facts rows enough (steps set n (unwoven t)) 0 x
     matched_at n (Fw m p s l wl y ov links old was w ps) fine typed x d few way =
         forward.after set W marks most (At_some (Run m p l s y (u_stack ov links) w)) (runs_of (Run m p l s y (u_stack ov links) w)) members form facts rows enough way
-        (whole.follows set W marks most (At_some (Run m p l s y (u_stack ov links) w)) (runs_of (Run m p l s y (u_stack ov links) w)) members form facts rows enough Typed known n (Fw m p s l wl y ov links old was w ps) d few fine typed (λ j g v rest h. ((j, h), (tt, tt), tt)))
+        (whole.follows set W marks most (At_some (Run m p l s y (u_stack ov links) w)) (runs_of (Run m p l s y (u_stack ov links) w)) members form facts rows enough Typed known n (Fw m p s l wl y ov links old was w ps) d few fine typed (λ j g v rest h. ((j, h), (tt, tt, tt), tt)))
 
     stood : (n : ℕ) (first : Thread) (x : Woven_state) → Leads first x → Typed first → StandsWith set W marks form first x n
     stood n first x leads typed =
@@ -199,7 +199,7 @@ module _ (set : Setting) (W : Program) (marks : List (List Bool)) (most : ℕ) (
           where
             by : At_some first (wsteps set W marks j x) ⊎ ((k : ℕ) × (wsteps set W marks j x ≡ wsteps set W marks k (WStop r.over))) → StepIsKnown set W marks (wsteps set W marks j x) × StackIsThere set W marks (wsteps set W marks j x)
             by (inl q) = (q.1, q.2)
-            by (inr k) = subst (λ (z : Woven_state). StepIsKnown set W marks z × StackIsThere set W marks z) (sym (k.1 ∙ wstays set W marks k.0 r.over)) ((tt, tt), tt)
+            by (inr k) = subst (λ (z : Woven_state). StepIsKnown set W marks z × StackIsThere set W marks z) (sym (k.1 ∙ wstays set W marks k.0 r.over)) ((tt, tt, tt), tt)
 
         never_lost : (j : ℕ) → wsteps set W marks j x ≢ WStop Lost
         never_lost j e = let h = (ends_alike Lost).1 (j, e) in none_lost set W marks form Typed known h.0 first typed (subst (λ (t : Thread). t ≢ Stop Lost) leads.is (run_not_lost leads.both)) h.1
